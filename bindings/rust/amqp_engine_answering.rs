@@ -39,8 +39,7 @@ impl Engine {
         self.ask(Operation::EndAnswer, &[&session.to_be_bytes(), &[error.is_some() as u8], error.unwrap_or(&[])])
     }
 
-    /// Lets a session go that both sides have ended: `release` and `forget`. `Refused` where it is not over;
-    /// its channel is given back all the same, so ask it of none that goes on.
+    /// Lets a session go that both sides have ended: `release` and `forget`. `Refused` of any other (`NotEnded`), which keeps its channel.
     pub fn let_go(&mut self, session: u32) -> Result<(), Error> {
         self.ask(Operation::LetGo, &[&session.to_be_bytes()])
     }

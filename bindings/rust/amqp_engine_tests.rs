@@ -273,7 +273,8 @@ fn what_a_peer_begins_and_ends_is_answered() {
     assert_eq!((end.kind, end.session), (kind::ENDED, 70));
     engine.answer_end(70, None).unwrap();
     assert_eq!(engine.session_state(70).unwrap(), None);
-    assert!(matches!(engine.let_go(7), Err(Error::Refused(_))));
+    assert!(matches!(engine.let_go(7), Err(Error::Refused(refusal)) if refusal.name == "NotEnded"));
+    engine.release(7).unwrap();
     sent(&mut engine);
     let (close, frame) = hear(&mut engine, 0, b"\0\x53\x18\x45");
     assert_eq!(engine.answer(&close, &frame, answers::ALL, 0), Ok(true));

@@ -316,9 +316,11 @@ AMQP1_FUNCTION int32_t amqp1_answer_end(amqp1 *place, uint32_t session, const ui
     return amqp1_join_and_ask(place, AMQP1_END_ANSWER, head, sizeof head, error, error ? error_length : 0, NULL, 0);
 }
 
-/* Lets a session go that both sides have ended: amqp1_release and amqp1_forget, the second where the first was done. DONE. NOT_RELEASED where the
-   first was not: nothing changed. NOT_FORGOTTEN where the second was not, so of a session that is not over: its channel was given back all the same. Of
-   both amqp1_refusal tells why, also `OutOfMemory`, after which it may be done by those two. */
+/* Lets a session go that both sides have ended: amqp1_release and amqp1_forget, the second where the first was done.
+
+   DONE. REFUSED, `NotEnded`, where there is no such session, or not both sides have ended it: nothing changed, and it keeps its channel. NOT_RELEASED
+   where the first was not done: nothing changed. NOT_FORGOTTEN where the second was not: its channel was given back. Of both amqp1_refusal tells why,
+   also `OutOfMemory`, after which it may be done by those two. */
 AMQP1_FUNCTION int32_t amqp1_let_go(amqp1 *place, uint32_t session)
 {
     return amqp1_of_session(place, AMQP1_LET_GO, session, NULL, 0);

@@ -139,8 +139,9 @@ int32_t amqp1_take(amqp1 *place, uint64_t now, const uint8_t *input, size_t inpu
 
    DONE. NO_MEMORY: nothing changed but that some of what waited may be sent; ask again. BAD_ARGUMENT where `input` has no Begin there that answers
    none: nothing changed. REFUSED, by a name that amqp1_refusal tells: of a Begin `NotOpened` where the connection is not open, `ChannelInUse` where
-   its channel leads to a session, and the engine's name where no session begins, as `SessionInUse` or `ChannelMaxReached`; of all others that of
-   the End or the Close, as `Over`. LOST, BROKEN: see amqp1_answer_begin. NOT_RELEASED, NOT_FORGOTTEN: see amqp1_let_go. */
+   its channel leads to a session, and the engine's name where no session begins, as `SessionInUse` or `ChannelMaxReached`; of an End `NotEnded`
+   where its session was let go before; of all others that of the End or the Close, as `Over`. LOST, BROKEN: see amqp1_answer_begin.
+   NOT_RELEASED, NOT_FORGOTTEN: see amqp1_let_go. */
 int32_t amqp1_answer(amqp1 *place, const amqp1_record *record, const uint8_t *input, size_t input_length, uint16_t flags,
                      uint32_t number);
 

@@ -2,11 +2,13 @@
    amqp1_answer_end and amqp1_let_go: what goes out, which sessions there are then, and each refusal. */
 #include "amqp1_try.h"
 
-/* The peer begins a session on its channel 5, and ends it; this side's Begin on channel 0 as the answer, and its End there. */
+/* The peer begins a session on its channel 5, and ends it; this side's Begin on channel 0 as the answer, and its End there. And another session. */
 #define BEGIN_5 "[02000005 005311 c0(04 40 43 5264 5264)]"
 #define END_5 "[02000005 00531745]"
 #define ANSWER_0 "[02000000 005311 c0(04 600005 43 7000001388 7000001388)]"
 #define END_0 "[02000000 00531745]"
+#define BEGIN_6 "[02000006 005311 c0(04 40 43 5264 5264)]"
+#define ANSWER_1 "[02000001 005311 c0(04 600006 43 7000001388 7000001388)]"
 #define CLOSE "[02000000 00531845]"
 
 /* A Flow of a link that is not attached, on channel 5, and one on a channel that leads to no session. */
@@ -59,8 +61,8 @@ static void try_begin(void)
     CHECK(amqp1_answer(&engine, &begin, heard_bytes, begin.at + begin.size, AMQP1_ANSWER_BEGINS, begin.channel) == AMQP1_DONE);
     CHECK(sends(&engine, ANSWER_0) && is_session(&engine, 5, AMQP1_SESSION_MAPPED, 5));
     CHECK(again(&engine, AMQP1_ANSWER_ALL) == AMQP1_REFUSED && refused_as(&engine, "ChannelInUse", "") && sends(&engine, ""));
-    CHECK(gives(&engine, "[02000006 005311 c0(04 40 43 5264 5264)]", AMQP1_KIND_BEGIN_WANTED, AMQP1_ANSWER_ALL) == AMQP1_DONE);
-    CHECK(sends(&engine, "[02000001 005311 c0(04 600006 43 7000001388 7000001388)]") && is_session(&engine, 6, AMQP1_SESSION_MAPPED, 6));
+    CHECK(gives(&engine, BEGIN_6, AMQP1_KIND_BEGIN_WANTED, AMQP1_ANSWER_ALL) == AMQP1_DONE);
+    CHECK(sends(&engine, ANSWER_1) && is_session(&engine, 6, AMQP1_SESSION_MAPPED, 6));
     CHECK(gives(&engine, "[02000006 005312 c0(03 a1(746f) 43 42)]", AMQP1_KIND_ATTACH_WANTED, AMQP1_ANSWER_ALL) == AMQP1_NOTHING);
     CHECK(heard[0].session == 6 && sends(&engine, ""));
     amqp1_free(&engine);
@@ -128,7 +130,7 @@ static void try_close(void)
     CHECK(amqp1_is_over(&engine, &is_over) == AMQP1_DONE && is_over);
     CHECK(again(&engine, AMQP1_ANSWER_CLOSES) == AMQP1_REFUSED && refused_as(&engine, "Over", ""));
     CHECK(amqp1_answer_end(&engine, 5, NULL, 0) == AMQP1_REFUSED && refused_as(&engine, "Over", ""));
-    CHECK(amqp1_let_go(&engine, 5) == AMQP1_NOT_RELEASED && refused_as(&engine, "Over", "") && sends(&engine, ""));
+    CHECK(amqp1_let_go(&engine, 5) == AMQP1_REFUSED && refused_as(&engine, "NotEnded", "") && sends(&engine, ""));
     amqp1_free(&engine);
 }
 
@@ -158,7 +160,7 @@ static void try_answer_begin(void)
     CHECK(amqp1_answer_begin(&engine, heard, heard_bytes, 70000, text, length) == AMQP1_DONE);
     CHECK(sends(&engine, "[02000000 005311 c0(05 600005 5203 5207 5208 5209)]") && is_session(&engine, 70000, AMQP1_SESSION_MAPPED, 5));
     CHECK(amqp1_answer_begin(&engine, heard, heard_bytes, 70001, text, length) == AMQP1_REFUSED && refused_as(&engine, "ChannelInUse", ""));
-    CHECK(hears_one(&engine, "[02000006 005311 c0(04 40 43 5264 5264)]", AMQP1_KIND_BEGIN_WANTED));
+    CHECK(hears_one(&engine, BEGIN_6, AMQP1_KIND_BEGIN_WANTED));
     CHECK(amqp1_answer_begin(&engine, heard, heard_bytes, 70000, text, length) == AMQP1_REFUSED && refused_as(&engine, "SessionInUse", ""));
     CHECK(sends(&engine, "") && session_state_of(&engine, 70001) == 99);
     amqp1_free(&engine);
@@ -222,22 +224,37 @@ static void try_answer_end(void)
     CHECK(amqp1_answer_end(&engine, 5, NULL, 0) == AMQP1_NO_ENGINE);
 }
 
-/* A session that both sides have ended is let go, once; of one that is not over the channel alone is given back. */
+/* A session that both sides have ended is let go, once; any other is refused, and keeps its channel. */
 static void try_let_go(void)
 {
     amqp1 engine = served();
-    CHECK(amqp1_let_go(&engine, 6) == AMQP1_NOT_RELEASED && refused_as(&engine, "NoSession", ""));
-    CHECK(amqp1_end(&engine, 5, NULL, 0) == AMQP1_DONE && sends(&engine, END_0) && hears_one(&engine, END_5, AMQP1_KIND_ENDED));
+    CHECK(amqp1_let_go(&engine, 6) == AMQP1_REFUSED && refused_as(&engine, "NotEnded", ""));
+    CHECK(amqp1_let_go(&engine, 5) == AMQP1_REFUSED && refused_as(&engine, "NotEnded", "") && is_session(&engine, 5, AMQP1_SESSION_MAPPED, 5));
+    CHECK(gives(&engine, BEGIN_6, AMQP1_KIND_BEGIN_WANTED, AMQP1_ANSWER_ALL) == AMQP1_DONE && sends(&engine, ANSWER_1));
+    CHECK(amqp1_end(&engine, 5, NULL, 0) == AMQP1_DONE && sends(&engine, END_0));
+    CHECK(amqp1_let_go(&engine, 5) == AMQP1_REFUSED && refused_as(&engine, "NotEnded", "") && session_state_of(&engine, 5) == AMQP1_SESSION_END_SENT);
+    CHECK(hears_one(&engine, END_5, AMQP1_KIND_ENDED));
     CHECK(amqp1_answer_end(&engine, 5, NULL, 0) == AMQP1_REFUSED && refused_as(&engine, "NotEnded", ""));
     CHECK(amqp1_let_go(&engine, 5) == AMQP1_DONE && session_state_of(&engine, 5) == 99);
-    CHECK(amqp1_let_go(&engine, 5) == AMQP1_NOT_RELEASED && refused_as(&engine, "NoSession", "") && sends(&engine, ""));
-    amqp1_free(&engine);
-    engine = served();
-    CHECK(amqp1_let_go(&engine, 5) == AMQP1_NOT_FORGOTTEN && refused_as(&engine, "IllegalState", "amqp:illegal-state"));
-    CHECK(session_state_of(&engine, 5) == AMQP1_SESSION_MAPPED && amqp1_let_go(&engine, 5) == AMQP1_NOT_RELEASED);
-    CHECK(refused_as(&engine, "NotFound", "amqp:not-found") && sends(&engine, ""));
+    CHECK(amqp1_let_go(&engine, 5) == AMQP1_REFUSED && refused_as(&engine, "NotEnded", "") && sends(&engine, ""));
     amqp1_free(&engine);
     CHECK(amqp1_let_go(&engine, 5) == AMQP1_NO_ENGINE);
+}
+
+/* Both sides have ended it; but it gave its channel back before, or the connection is over. */
+static void try_no_let_go(void)
+{
+    amqp1 engine = served();
+    CHECK(amqp1_end(&engine, 5, NULL, 0) == AMQP1_DONE && sends(&engine, END_0) && hears_one(&engine, END_5, AMQP1_KIND_ENDED));
+    CHECK(amqp1_release(&engine, 5) == AMQP1_DONE);
+    CHECK(amqp1_let_go(&engine, 5) == AMQP1_NOT_RELEASED && refused_as(&engine, "NotFound", "amqp:not-found"));
+    CHECK(amqp1_forget(&engine, 5) == AMQP1_DONE && session_state_of(&engine, 5) == 99 && sends(&engine, ""));
+    amqp1_free(&engine);
+    engine = served();
+    CHECK(amqp1_end(&engine, 5, NULL, 0) == AMQP1_DONE && sends(&engine, END_0) && hears_one(&engine, END_5, AMQP1_KIND_ENDED));
+    CHECK(gives(&engine, CLOSE, AMQP1_KIND_CLOSED, AMQP1_ANSWER_ALL) == AMQP1_DONE && sends(&engine, CLOSE));
+    CHECK(amqp1_let_go(&engine, 5) == AMQP1_NOT_RELEASED && refused_as(&engine, "Over", "") && sends(&engine, ""));
+    amqp1_free(&engine);
 }
 
 static void try_names(void)
@@ -260,5 +277,6 @@ void try_sessions(void)
     try_no_answer_begin();
     try_answer_end();
     try_let_go();
+    try_no_let_go();
     try_names();
 }

@@ -134,13 +134,14 @@ def a_record_is_answered():
     (told,) = client.take(server.to_send()).records
     assert (told.kind, told.session, server.session_state(0)) == (BEGUN, 7, "MAPPED")
     refused(lambda: server.answer_end(0), "NotEnded")
+    refused(lambda: client.let_go(7), "NotEnded")
     client.end(7)
     came = client.to_send()
     (told,) = server.take(came).records
     server.answer_end(0)
     assert client.take(server.to_send()).taken and server.session_state(0) is None
     client.let_go(7)
-    refused(lambda: client.let_go(7), "NoSession")
+    refused(lambda: client.let_go(7), "NotEnded")
     client.begin(8)
     came = client.to_send()
     (told,) = server.take(came).records

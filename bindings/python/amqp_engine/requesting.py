@@ -132,8 +132,8 @@ class Requests:
         self._numbers.pop(session, None)
 
     def let_go(self, session: int) -> None:
-        """A session that both sides have ended gives its channel back, and is let go: `release` and `forget`. Raises `Refusal` where it is not over; its
-        channel is given back all the same, so ask it of none that goes on."""
+        """A session that both sides have ended gives its channel back, and is let go: `release` and `forget`. Raises `Refusal` (`NotEnded`) of any other,
+        which keeps its channel."""
         self._ask(_LET_GO, numbers(session))
         self._numbers.pop(session, None)
 

@@ -89,7 +89,7 @@ EndsBy (Some x) g c s c' = EndsIfSaid g c x.0 x.1 s c'
 abbrev pub PerformsAnswerEnd : Relays PlainRelay → ClientView → List ℕ → Status → ClientView → Type 0
 PerformsAnswerEnd g c input s c' = EndsBy (number_at w32 input) g c s c'
 
--- The stream lets a session go that both sides have ended.
+-- The stream lets a session go that both sides have ended, and refuses any other; the status says what became of it, and a refusal is kept.
 abbrev pub LetsGoOne : Relays PlainRelay → ClientView → ℕ → Status → ClientView → Type 0
 LetsGoOne g c n s c' = (a : EndAnswer) × LetsGoStream g c.stream (record { 0 = n }) a c'.stream × (s ≡ ended_status a)
     × (c'.last ≡ last_ended c.last c'.stream.driver.engine.connection.state a)

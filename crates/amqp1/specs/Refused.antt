@@ -65,7 +65,8 @@ not_opened = record { name = codes "NotOpened"; condition = []; peer = None }
 abbrev pub channel_in_use : RefusedModel
 channel_in_use = record { name = codes "ChannelInUse"; condition = []; peer = None }
 
--- the answer to an End of the peer's, where that has not ended the session, or this side has too (section 2.5.3)
+-- the answer to an End of the peer's, where that has not ended the session, or this side has too; and of a session to let go that not both have ended
+-- (section 2.5.3)
 abbrev pub not_ended : RefusedModel
 not_ended = record { name = codes "NotEnded"; condition = []; peer = None }
 

@@ -57,7 +57,7 @@
 //! | 33 | `IsOver` | none | u8: 1 where the connection is over, else 0 |
 //! | 34 | `AnswerBegin` | u32 session, u32 length of PERF, PERF of a Begin without remote-channel, the peer's frame behind its size | a session begins, with what PERF says, as the answer to the peer's Begin |
 //! | 35 | `AnswerEnd` | u32 session, and on as in 3 | a session that the peer has ended is ended by this side too, and let go |
-//! | 36 | `LetGo` | u32 session | a session that both sides have ended gives its channel back, and is let go: 6 and 7 |
+//! | 36 | `LetGo` | u32 session | a session that both sides have ended gives its channel back, and is let go: 6 and 7; of any other nothing changes |
 //!
 //! # Statuses
 //!
@@ -89,7 +89,7 @@
 //! - 17 `NOT_RELEASED` and 18 `NOT_FORGOTTEN`, of an answer to an End, and of `LetGo`: what was before is done, and the channel was not given back; or it was,
 //!   and the session was not let go. `Refusal` says why.
 //!
-//! An answer to a Begin is `REFUSED` as `NotOpened`, `ChannelInUse`, `TooLarge`, or by the engine's name, and one to an End as `NotEnded`; it is
+//! An answer to a Begin is `REFUSED` as `NotOpened`, `ChannelInUse`, `TooLarge`, or by the engine's name, and one to an End, or `LetGo`, as `NotEnded`; it is
 //! `BAD_ARGUMENT` also where the frame is no Begin that answers none. `amqp_driver::BeginAnswer` and `EndAnswer` say what has changed then.
 //!
 //! # What is proved, and what is not

@@ -30,6 +30,7 @@ use Rattle.amqp_driver.specs.declared.asked.Asked.TheVariants as asked
 use Rattle.amqp_driver.specs.declared.record.Record.{Record}
 use Rattle.amqp_driver.specs.declared.wanted.Wanted.{Wanted}
 use Rattle.amqp_driver.specs.declared.wanted.Wanted.TheVariants as want
+use Rattle.amqp_driver.specs.Ending.{IsEnded, session_in}
 use Rattle.amqp_driver.specs.Laws.{IsMadeOfCalls}
 use Rattle.amqp_driver.specs.Refusals.{alloc_number, frame_number, inner_number, link_number, refusal_number, session_number, session_state_number, state_number}
 use Rattle.amqp_driver.specs.Stream.{StreamView}
@@ -39,24 +40,24 @@ use Rattle.amqp_driver.specs.Wanted.{AnswersIfDue, AnswersWanted, EndsOrLetsGo, 
 
 -- ---- a session is let go
 
-pub stream_lets_go : {R : Type 0} (g : Relays R) (v k w : StreamView R) (n : SessionNo) (a : EndAnswer) → AsksStream g v (input.Release n) asked.Done k
-    → ForgetsStream g k n a w → LetsGoStream g v n a w
-stream_lets_go g v k w n end.Done r x = (k, r, x)
-stream_lets_go g v k w n (end.NotForgotten a) r x = (k, r, x)
-stream_lets_go g v k w n end.NotEnded r x = absurd x
-stream_lets_go g v k w n (end.Unsent a) r x = absurd x
-stream_lets_go g v k w n (end.NotReleased a) r x = absurd x
+pub stream_lets_go : {R : Type 0} (g : Relays R) (v k w : StreamView R) (n : SessionNo) (a : EndAnswer) → IsEnded (session_in v.driver n)
+    → AsksStream g v (input.Release n) asked.Done k → ForgetsStream g k n a w → LetsGoStream g v n a w
+stream_lets_go g v k w n end.Done is r x = (k, is, r, x)
+stream_lets_go g v k w n (end.NotForgotten a) is r x = (k, is, r, x)
+stream_lets_go g v k w n end.NotEnded is r x = absurd x
+stream_lets_go g v k w n (end.Unsent a) is r x = absurd x
+stream_lets_go g v k w n (end.NotReleased a) is r x = absurd x
 
 -- ---- of which calls
 
 pub lets_go_by_calls : {R : Type 0} (g : Relays R) (v w : StreamView R) (n : SessionNo) (a : EndAnswer) → LetsGoStream g v n a w → IsMadeOfCalls g v w
-lets_go_by_calls g v w n (end.NotReleased a) x = (asks (input.Release n) a ∷ [], (w, x.0, refl))
+lets_go_by_calls g v w n end.NotEnded x = ([], x.1)
+lets_go_by_calls g v w n (end.NotReleased a) x = (asks (input.Release n) a ∷ [], (w, x.1.0, refl))
 lets_go_by_calls g v w n end.Done x =
-    (asks (input.Release n) asked.Done ∷ asks (input.Forget n) asked.Done ∷ [], (x.0, x.1, (w, x.2, refl)))
+    (asks (input.Release n) asked.Done ∷ asks (input.Forget n) asked.Done ∷ [], (x.0, x.2, (w, x.3, refl)))
 lets_go_by_calls g v w n (end.NotForgotten a) x =
-    (asks (input.Release n) asked.Done ∷ asks (input.Forget n) a ∷ [], (x.0, x.1, (w, x.2.0, refl)))
-lets_go_by_calls g v w n end.NotEnded x = absurd x.2
-lets_go_by_calls g v w n (end.Unsent a) x = absurd x.2
+    (asks (input.Release n) asked.Done ∷ asks (input.Forget n) a ∷ [], (x.0, x.2, (w, x.3.0, refl)))
+lets_go_by_calls g v w n (end.Unsent a) x = absurd x.3
 
 ends_by_calls : {R : Type 0} (g : Relays R) (v w : StreamView R) (n : SessionNo) (a : EndAnswer) → EndsOrLetsGo g v n a w → IsMadeOfCalls g v w
 ends_by_calls g v w n a (inl x) = (ends n None a ∷ [], (w, x.1, refl))

@@ -2,7 +2,7 @@
 -- `answer_end`: a session that the peer ends is ended by this side too, and let go (AMQP 1.0 part 2, section 2.5.3).
 use Rattle.std.specs.Prelude.{◌≡◌, List, [], ◌∷◌, ◌++◌, nat_eq, Option, Some, None}
 use Rattle.std.specs.Map.{lookup}
-use Rattle.amqp_types.specs.declared.states.SessionState.TheVariants.{EndReceived}
+use Rattle.amqp_types.specs.declared.states.SessionState.TheVariants.{EndReceived, Unmapped}
 use Rattle.amqp_types.specs.Error.{ErrorModel}
 use Rattle.amqp_session.specs.Relay.{Relays}
 use Rattle.amqp_session.specs.Session.{SessionView}
@@ -21,6 +21,11 @@ use Rattle.amqp_driver.specs.Requests.{Requests}
 abbrev pub IsEnding : {R : Type 0} → Option (SessionView R) → Type 0
 IsEnding None = ⊥
 IsEnding (Some s) = s.state ≡ EndReceived
+
+-- Both sides have ended the session, and it is still there: so it is in the state that the engine wants of a session that is to be forgotten.
+abbrev pub IsEnded : {R : Type 0} → Option (SessionView R) → Type 0
+IsEnded None = ⊥
+IsEnded (Some s) = s.state ≡ Unmapped
 
 abbrev pub session_in : {R : Type 0} → DriverView R → SessionNo → Option (SessionView R)
 session_in d n = lookup (nat_eq n.0) d.engine.sessions

@@ -22,7 +22,7 @@ use Rattle.amqp_driver.specs.declared.asked.Asked.TheVariants as asked
 use Rattle.amqp_driver.specs.declared.record.Record.{Record}
 use Rattle.amqp_driver.specs.declared.wanted.Wanted.{Wanted}
 use Rattle.amqp_driver.specs.declared.wanted.Wanted.TheVariants as want
-use Rattle.amqp_driver.specs.Ending.{IsEnding, session_in}
+use Rattle.amqp_driver.specs.Ending.{IsEnded, IsEnding, session_in}
 use Rattle.amqp_driver.specs.Heads.{has}
 use Rattle.amqp_driver.specs.Stream.{StreamView}
 use Rattle.amqp_driver.specs.StreamTicking.{AsksStream, BeginsStream, EndsStream}
@@ -81,10 +81,12 @@ ForgetsStream g v n end.Done w = AsksStream g v (input.Forget n) asked.Done w
 ForgetsStream g v n (end.NotForgotten a) w = FailsStream g v (input.Forget n) a w
 ForgetsStream g v n a w = ⊥
 
--- its channel is given back, and then it is forgotten; or why not
+-- Its channel is given back, and then it is forgotten; or why not. Of any other session nothing changes.
 abbrev pub LetsGoStream : {R : Type 0} → Relays R → StreamView R → SessionNo → EndAnswer → StreamView R → Type 0
-LetsGoStream g v n (end.NotReleased a) w = FailsStream g v (input.Release n) a w
-LetsGoStream g v n a w = (k : StreamView _) × AsksStream g v (input.Release n) asked.Done k × ForgetsStream g k n a w
+LetsGoStream g v n end.NotEnded w = (¬ IsEnded (session_in v.driver n)) × (w ≡ v)
+LetsGoStream g v n (end.NotReleased a) w = IsEnded (session_in v.driver n) × FailsStream g v (input.Release n) a w
+LetsGoStream g v n a w =
+    (k : StreamView _) × IsEnded (session_in v.driver n) × AsksStream g v (input.Release n) asked.Done k × ForgetsStream g k n a w
 
 -- ---- the answer
 

@@ -36,7 +36,8 @@ pub enum BeginAnswer {
 pub enum EndAnswer {
     /// The session is over: this side's End waits to be sent, its channel may be given to another session, and it is forgotten.
     Done,
-    /// There is no such session, or the peer has not ended it, or this side has too. Nothing has changed.
+    /// There is no such session; or, of `answer_end`, the peer has not ended it, or this side has too; or, of `let_go`, not both sides have ended
+    /// it. Nothing has changed.
     NotEnded,
     /// This side's End was not done: so the session is still there.
     Unsent(Asked),

@@ -110,8 +110,27 @@ fn an_end_is_answered(rt: HostRuntime) -> Result<(), Fail> {
         (before, after),
         (Some(SessionState::EndReceived), None),
     );
-    same(&rt, again, (2, 2002));
+    same(&rt, again, (2, 1));
     holds(&rt, is_end);
+    Ok(())
+}
+
+#[test]
+fn a_session_that_both_sides_ended_is_let_go(rt: HostRuntime) -> Result<(), Fail> {
+    let mut stream = mapped(rt.alloc())?;
+    let on = ended(stream.let_go(NUMBER));
+    let none = ended(stream.let_go(SessionNo(41)));
+    let asked = number(stream.request(Input::End(NUMBER, None)));
+    let half = ended(stream.let_go(NUMBER));
+    let state = state_of(&stream, 40);
+    let _ = take(&mut stream, 0, &END);
+    let done = ended(stream.let_go(NUMBER));
+    let gone = state_of(&stream, 40);
+    let again = ended(stream.let_go(NUMBER));
+    drop(stream);
+    same(&rt, (on, none, half), (1, 1, 1));
+    same(&rt, (asked, done, again), (0, 0, 1));
+    same(&rt, (state, gone), (Some(SessionState::EndSent), None));
     Ok(())
 }
 

@@ -71,7 +71,7 @@ impl Client {
         self.note_ended(answer)
     }
 
-    /// Lets a session go that both sides have ended. `BadArgument` exactly where the bytes are no number.
+    /// Lets a session go that both sides have ended: any other is `Refused`, as `NotEnded`. `BadArgument` exactly where the bytes are no number.
     pub(super) fn let_go(&mut self, input: &[u8]) -> Status
         ensures { PerformsLetGo ⟦<PlainRelay as LinkRelay>⟧.gives self.old input.now result self.new }
     {

@@ -1,7 +1,7 @@
 //! The answer to an End of the peer's (AMQP 1.0 part 2, section 2.5.3).
 
 ghost use Rattle.std.specs.Prelude.{◌≡◌, ◌↔◌, IsTrue};
-ghost use Rattle.amqp_driver.specs.Ending.{AnswersEnd, Forgets, IsEnding, LetsGo, session_in};
+ghost use Rattle.amqp_driver.specs.Ending.{AnswersEnd, Forgets, IsEnded, IsEnding, LetsGo, session_in};
 
 use super::Driver;
 use crate::answered::EndAnswer;
@@ -42,6 +42,16 @@ impl<R: LinkRelay> Driver<R> {
     {
         match self.engine.session(session) {
             Some(session) => *session.local_state() == SessionState::EndReceived,
+            None => false,
+        }
+    }
+
+    /// Whether both sides have ended a session, which is still there.
+    pub(crate) fn is_ended(&self, session: SessionNo) -> bool
+        ensures { IsTrue result ↔ IsEnded (session_in self.now session) }
+    {
+        match self.engine.session(session) {
+            Some(session) => *session.local_state() == SessionState::Unmapped,
             None => false,
         }
     }

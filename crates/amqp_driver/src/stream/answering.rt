@@ -89,12 +89,15 @@ impl<R: LinkRelay> Stream<R> {
         }
     }
 
-    /// Lets a session go that both sides have ended: it gives its channel back, and forgets it (AMQP 1.0 part 2, section 2.5.3). It is two requests,
-    /// [`Input::Release`] and [`Input::Forget`], of which the second is made where the first was done: `NotReleased` where that was not, so of a
-    /// session that is not over, and `NotForgotten` where the second was not.
+    /// Lets a session go that both sides have ended: it gives its channel back, and forgets it (AMQP 1.0 part 2, section 2.5.3). `NotEnded` of any
+    /// other one, which keeps its channel: nothing has changed. It is two requests, [`Input::Release`] and [`Input::Forget`], of which the second is
+    /// made where the first was done: `NotReleased` where that was not, and `NotForgotten` where the second was not.
     pub fn let_go(&mut self, session: SessionNo) -> EndAnswer
         ensures { LetsGoStream R.gives self.old session result self.new }
     {
+        if !self.driver.is_ended(session) {
+            return EndAnswer::NotEnded;
+        }
         match self.request(Input::Release(session)) {
             Asked::Done => self.forget(session),
             asked => EndAnswer::NotReleased(asked),
