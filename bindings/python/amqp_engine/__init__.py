@@ -29,3 +29,12 @@ from .transport import Connection, HeaderRefused, SessionRefused, condition_of
 from .values import Array, Described, Malformed, Map, Repeated, Symbol, Ubyte, Uint, Ulong, Ushort
 
 __version__ = "0.1.0"
+
+__all__ = [
+    "ACCEPTED", "Anonymous", "AnyEvent", "Array", "Attach", "Attached", "BadArgument", "Begin", "Close", "Closed", "Connection", "Delivery",
+    "Described", "Detach", "Detached", "Disposed", "Disposition", "Driver", "End", "Engine", "Error", "Event", "External", "FIRST", "Flow", "Flowed",
+    "HeaderRefused", "LoginRefused", "MIXED", "Malformed", "Map", "NoMemory", "Open", "Opening", "PeerSilent", "Plain", "RECEIVER", "RELEASED",
+    "Record", "Refusal", "Repeated", "SECOND", "SENDER", "SETTLED", "Server", "SessionBegan", "SessionEnded", "SessionRefused", "Symbol", "Taken",
+    "Tick", "Transfer", "Transferred", "UNSETTLED", "Ubyte", "Uint", "Ulong", "Ushort", "Waits", "address_of", "body_of", "condition_of", "connect",
+    "data", "rejected", "serve", "source", "target",
+]  # fmt: skip

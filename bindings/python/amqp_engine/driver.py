@@ -7,7 +7,7 @@ from __future__ import annotations
 import ctypes
 import os
 import struct
-from typing import Any, Dict, List, NamedTuple, Optional, Sequence, Tuple, Union
+from typing import Any, Dict, Iterator, List, NamedTuple, Optional, Sequence, Tuple, Union, cast
 
 from . import library as lib
 from . import opening as begins
@@ -63,7 +63,8 @@ class Record(NamedTuple):
     first: int
     last: int
     format: int
-    count: int
+    # this hides a tuple's method of that name
+    count: int  # type: ignore[assignment]
     credit: int
     available: int
     refusal: int
@@ -178,7 +179,7 @@ class Driver(Requests):
     def _make(self, new: Any, open: bytes, key: bytes, opening: Opening, time: int, limit: Optional[int]) -> None:
         host = None if opening.host is None else opening.host.encode()
         said = [(mechanism.encode("ascii"), response) for mechanism, response in opening.logins]
-        heads = (lib.LoginHead * len(said))(*((len(it), NONE if response is None else len(response)) for it, response in said))
+        heads = (lib.LoginHead * len(said))(*(lib.LoginHead(len(it), NONE if response is None else len(response)) for it, response in said))
         data = (host or b"") + b"".join(mechanism + (response or b"") for mechanism, response in said)
         own_host = NONE if host is None else len(host)
         how = lib.How((ctypes.c_uint8 * 16)(*key), time, NONE if limit is None else limit, opening.side, own_host)
@@ -284,7 +285,7 @@ class Driver(Requests):
         status = self._send(ctypes.byref(self._place), heads, count, data, len(data), sent, count, ctypes.byref(went))
         if status != lib.NO_MEMORY or not went.taken:
             self._judge(status)
-        told: List[Tuple[int, int]] = list(_SENT.iter_unpack(memoryview(sent)[: went.taken * _SENT.size]))
+        told = list(cast(Iterator[Tuple[int, int]], _SENT.iter_unpack(memoryview(sent)[: went.taken * _SENT.size])))
         for it, (_, refusal) in zip(deliveries, told):
             if it.flags & NUMBERED and not refusal:
                 self._numbered(it.session)

@@ -89,14 +89,16 @@ class Described(NamedTuple):
     value: Any
 
 
-class Repeated(Sequence):
+class Repeated(Sequence[Any]):
     """One item so many times, as a sequence. An array of nulls, of empty lists, .. says in a few bytes that it has four thousand million of them."""
 
     __slots__ = ("item", "count")
 
     def __init__(self, item: Any, count: int) -> None:
-        #: the item, and how often it stands there
-        self.item, self.count = item, count
+        #: the item
+        self.item = item
+        #: how often it stands there; this hides a sequence's method of that name
+        self.count: int = count  # type: ignore[assignment]
 
     def __len__(self) -> int:
         return self.count
@@ -128,7 +130,7 @@ class Array:
 
     __slots__ = ("items", "constructor")
 
-    def __init__(self, items: Sequence, constructor: Optional[bytes] = None) -> None:
+    def __init__(self, items: Sequence[Any], constructor: Optional[bytes] = None) -> None:
         #: the items, in their order
         self.items, self.constructor = items, constructor
 

@@ -1,4 +1,8 @@
-"""The library `libamqp1.so`, by `ctypes`: its functions, and where the file is looked for."""
+"""The library `libamqp1.so`, by `ctypes`: its functions, and where the file is looked for.
+
+It is the one at the path that a program gives; else at that of the environment's `AMQP_LIBRARY`; else `libamqp1.so.1` in the package's folder, where a wheel
+puts it; else that which the system finds. An sdist has none.
+"""
 
 from __future__ import annotations
 
@@ -64,11 +68,15 @@ class Ticked(ctypes.Structure):
 
 def _found(path: Optional[str]) -> ctypes.CDLL:
     beside = Path(__file__).parent / _FILE
-    return ctypes.CDLL(path or os.environ.get("AMQP_LIBRARY") or (str(beside) if beside.exists() else _FILE))
+    named = path or os.environ.get("AMQP_LIBRARY") or (str(beside) if beside.exists() else _FILE)
+    try:
+        return ctypes.CDLL(named)
+    except OSError as error:
+        raise OSError(f"{error}; AMQP_LIBRARY may name the file {_FILE}, which tools/build_c.sh makes and the wheel for Linux has") from None
 
 
 def load(path: Optional[str] = None) -> ctypes.CDLL:
-    """The library: of this path; or of the environment's `AMQP_LIBRARY`; or beside this package; or where the system looks."""
+    """The library: of this path; else of `AMQP_LIBRARY`; else in this package's folder; else where the system looks. Raises `OSError` where there is none."""
     library = _found(path)
     place, size, at = ctypes.POINTER(Place), ctypes.c_size_t, ctypes.c_void_p
     _declare(library.amqp1_new, library.amqp1_call, library.amqp1_free)

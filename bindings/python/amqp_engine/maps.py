@@ -8,7 +8,7 @@ from typing import Any, Dict, Iterable, Iterator, List, Optional, Tuple, Union
 from .writing import write
 
 
-class Map(Mapping):
+class Map(Mapping[Any, Any]):
     """A map that was read: its `pairs`, in their order, and a mapping over them. What is to be written may be a `dict` too.
 
     `[]` finds the key of the same type, else one that is equal (a `Symbol` by the `str`, a `Uint` by the `int`). It is no `dict`, since a peer that chooses

@@ -8,8 +8,7 @@ a `values.Map`.
 from __future__ import annotations
 
 from dataclasses import dataclass, fields
-from functools import lru_cache
-from typing import Any, ClassVar, List, Mapping, Optional, Tuple, Type, TypeVar
+from typing import Any, Callable, ClassVar, Dict, List, Mapping, Optional, Tuple, Type, TypeVar
 
 from .values import Array, Described, Malformed, Map, Symbol, Ubyte, Uint, Ulong, Ushort, read, write
 
@@ -22,11 +21,14 @@ FIRST, SECOND = 0, 1
 MAX_FRAME_SIZE = 1048576
 
 _P = TypeVar("_P", bound="Performative")
+_NAMES: Dict[type, Tuple[str, ...]] = {}
 
 
-@lru_cache(None)
-def _names(cls: type) -> Tuple[str, ...]:
-    return tuple(field.name for field in fields(cls))  # type: ignore[arg-type]
+def _names(cls: Any) -> Tuple[str, ...]:
+    """The names of a performative's fields, which are looked up once."""
+    if cls not in _NAMES:
+        _NAMES[cls] = tuple(field.name for field in fields(cls))
+    return _NAMES[cls]
 
 
 def _symbols(value: Any) -> Any:
@@ -34,11 +36,11 @@ def _symbols(value: Any) -> Any:
     return Array([Symbol(it) for it in value]) if isinstance(value, (list, tuple)) else Symbol(value)
 
 
-_WRITTEN = {
+_WRITTEN: Dict[str, Callable[[Any], Any]] = {
     "string": str, "symbol": Symbol, "symbols": _symbols, "ulong": Ulong, "uint": Uint, "ushort": Ushort, "ubyte": Ubyte, "boolean": bool,
     "binary": bytes, "fields": lambda it: it, "value": lambda it: it, "error": lambda it: it.described(),
 }  # fmt: skip
-_READ = {
+_READ: Dict[str, Tuple[type, ...]] = {
     "string": (str,), "symbol": (Symbol,), "symbols": (Symbol, Array), "ulong": (Ulong,), "uint": (Uint,), "ushort": (Ushort,), "ubyte": (Ubyte,),
     "boolean": (bool,), "binary": (bytes,), "fields": (Map,), "value": (object,), "error": (Described,),
 }  # fmt: skip

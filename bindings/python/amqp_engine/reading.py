@@ -4,7 +4,7 @@ from __future__ import annotations
 
 import struct
 import uuid
-from typing import Any, List, Tuple
+from typing import Any, Callable, Dict, List, Tuple, TypeVar
 
 from .kinds import Array, Byte, Char, Decimal, Described, Float, Int, Malformed, Repeated, Short, Symbol, Timestamp, Ubyte, Uint, Ulong, Ushort
 from .maps import Map
@@ -13,6 +13,7 @@ from .maps import Map
 _DEEPEST = 64
 #: How many descriptors may stand before the items of an array, each of which has all of them
 _MOST_DESCRIPTORS = 2
+_T = TypeVar("_T")
 
 
 def _unsigned(of: bytes) -> int:
@@ -34,7 +35,7 @@ def _character(of: bytes) -> Char:
 
 
 # code: how many bytes follow, and the value that they are
-_FIXED = {
+_FIXED: Dict[int, Tuple[int, Callable[[bytes], Any]]] = {
     0x40: (0, lambda of: None), 0x41: (0, lambda of: True), 0x42: (0, lambda of: False), 0x43: (0, lambda of: Uint(0)),
     0x44: (0, lambda of: Ulong(0)), 0x45: (0, lambda of: []), 0x50: (1, lambda of: Ubyte(of[0])),
     0x51: (1, lambda of: Byte(_signed(of))), 0x52: (1, lambda of: Uint(of[0])), 0x53: (1, lambda of: Ulong(of[0])),
@@ -46,7 +47,7 @@ _FIXED = {
     0x82: (8, lambda of: struct.unpack(">d", of)[0]), 0x83: (8, lambda of: Timestamp(_signed(of))), 0x84: (8, Decimal),
     0x94: (16, Decimal), 0x98: (16, lambda of: uuid.UUID(bytes=of)),
 }  # fmt: skip
-_VARIABLE = {0xA0: bytes, 0xA1: lambda of: of.decode(), 0xA3: lambda of: Symbol(of.decode("ascii"))}
+_VARIABLE: Dict[int, Callable[[bytes], Any]] = {0xA0: bytes, 0xA1: lambda of: of.decode(), 0xA3: lambda of: Symbol(of.decode("ascii"))}
 
 
 def read(of: bytes, at: int = 0) -> Tuple[Any, int]:
@@ -126,7 +127,7 @@ def _items(of: bytes, at: int, end: int, count: int, depth: int) -> List[Any]:
     return _whole(found, at, end)
 
 
-def _whole(found: Any, at: int, end: int) -> Any:
+def _whole(found: _T, at: int, end: int) -> _T:
     if at != end:
         raise Malformed("a count that is not that of the items")
     return found
@@ -146,7 +147,7 @@ def _array(of: bytes, at: int, end: int, count: int, depth: int) -> Array:
 def _of_code(code: int, of: bytes, at: int, end: int, count: int, depth: int, descriptors: List[Any]) -> Tuple[Any, int]:
     """The items of an array, and where its constructor ends. Those that take no bytes are one, so many times."""
     constructed = at
-    if _FIXED.get(code, (1,))[0] == 0:
+    if code in _FIXED and _FIXED[code][0] == 0:
         item, at = _coded(code, of, at, end, depth)
         return _whole(Repeated(_described(item, descriptors), count), at, end), constructed
     found = []

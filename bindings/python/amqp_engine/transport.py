@@ -17,7 +17,7 @@ import asyncio
 import contextlib
 import time
 from collections import deque
-from typing import Any, AsyncIterator, Deque, Iterator, Optional, Union
+from typing import Any, AsyncIterator, Deque, Iterator, Optional
 
 from . import sasl
 from . import opening as begins

@@ -5,7 +5,7 @@ from __future__ import annotations
 import struct
 import uuid
 from collections.abc import Mapping, Sequence
-from typing import Any, Callable, Optional
+from typing import Any, Callable, Dict, List, Optional, Tuple, Union
 
 from .kinds import Array, Byte, Char, Decimal, Described, Float, Int, Repeated, Short, Symbol, Timestamp, Ubyte, Uint, Ulong, Ushort
 
@@ -46,7 +46,7 @@ def _variable(short: int) -> Callable[[Any], bytes]:
     return lambda value: _sized(short, _bytes(value))
 
 
-def _bytes(value: Any) -> bytes:
+def _bytes(value: Union[str, bytes]) -> bytes:
     return bytes(value) if isinstance(value, bytes) else value.encode("ascii" if isinstance(value, Symbol) else "utf-8")
 
 
@@ -64,11 +64,11 @@ def _extent(code: int, data: bytes, count: Optional[int] = None) -> bytes:
     return (len(counted) + len(data)).to_bytes(width, "big") + counted + data
 
 
-def _write_list(items: list) -> bytes:
+def _write_list(items: List[Any]) -> bytes:
     return b"\x45" if not items else _sized(0xC0, *_parts(items))
 
 
-def _parts(value: Any) -> "tuple[bytes, int]":
+def _parts(value: Any) -> Tuple[bytes, int]:
     """What stands in a list, a map or an array, and its count."""
     if isinstance(value, Array):
         constructor = value.constructor or _constructor(value.items)
@@ -81,7 +81,7 @@ def _parts(value: Any) -> "tuple[bytes, int]":
 # ---- the items of an array
 
 
-def _constructor(items: Sequence) -> bytes:
+def _constructor(items: Sequence[Any]) -> bytes:
     """What stands before items of one type, where nothing says how they came."""
     if not items:
         return b"\x40"
@@ -95,7 +95,7 @@ def _constructor(items: Sequence) -> bytes:
     return bytes([_code(first, items)])
 
 
-def _code(first: Any, items: Sequence) -> int:
+def _code(first: Any, items: Sequence[Any]) -> int:
     """The widest code of the items' type; of texts and binaries the short one where all are short."""
     if isinstance(first, Decimal):
         return {4: 0x74, 8: 0x84, 16: 0x94}[len(first)]
@@ -106,7 +106,7 @@ def _code(first: Any, items: Sequence) -> int:
     return code & 0xEF if is_short else code
 
 
-def _items(code: int, items: Sequence) -> bytes:
+def _items(code: int, items: Sequence[Any]) -> bytes:
     if isinstance(items, Repeated) and code in _EMPTY:
         items = items[:1]
     return b"".join(_data(code, it) for it in items)
@@ -128,22 +128,22 @@ def _data(code: int, item: Any) -> bytes:
 # ---- by code, and by type
 
 # the values that take no bytes after their code
-_EMPTY = {0x40: None, 0x41: True, 0x42: False, 0x43: 0, 0x44: 0, 0x45: []}
-_FIXED = {
+_EMPTY: Dict[int, Any] = {0x40: None, 0x41: True, 0x42: False, 0x43: 0, 0x44: 0, 0x45: []}
+_FIXED: Dict[int, Callable[[Any], bytes]] = {
     0x50: _number(1, False), 0x51: _number(1, True), 0x52: _number(1, False), 0x53: _number(1, False), 0x54: _number(1, True), 0x55: _number(1, True),
     0x56: lambda it: b"\x01" if it else b"\x00", 0x60: _number(2, False), 0x61: _number(2, True), 0x70: _number(4, False), 0x71: _number(4, True),
-    0x72: lambda it: struct.pack(">f", it), 0x73: lambda it: it.encode("utf-32-be"), 0x74: bytes, 0x80: _number(8, False), 0x81: _number(8, True),
-    0x82: lambda it: struct.pack(">d", it), 0x83: _number(8, True), 0x84: bytes, 0x94: bytes, 0x98: lambda it: it.bytes,
+    0x72: lambda it: struct.pack(">f", it), 0x73: lambda it: str.encode(it, "utf-32-be"), 0x74: bytes, 0x80: _number(8, False), 0x81: _number(8, True),
+    0x82: lambda it: struct.pack(">d", it), 0x83: _number(8, True), 0x84: bytes, 0x94: bytes, 0x98: lambda it: bytes(it.bytes),
 }  # fmt: skip
-_WIDEST = [
+_WIDEST: List[Tuple[type, int]] = [
     (type(None), 0x40), (bool, 0x56), (Ubyte, 0x50), (Ushort, 0x60), (Uint, 0x70), (Ulong, 0x80), (Byte, 0x51), (Short, 0x61), (Int, 0x71),
     (Timestamp, 0x83), (int, 0x81), (Float, 0x72), (float, 0x82), (uuid.UUID, 0x98), (Symbol, 0xB3), (Char, 0x73), (str, 0xB1), (bytes, 0xB0),
     (list, 0xD0), (Mapping, 0xD1), (Array, 0xF0),
 ]  # fmt: skip
-_WRITERS = [
+_WRITERS: List[Tuple[type, Callable[[Any], bytes]]] = [
     (bool, lambda it: b"\x41" if it else b"\x42"), (Ubyte, _plain(0x50)), (Ushort, _plain(0x60)), (Uint, _short(b"\x43", 0x52, 0x70)),
     (Ulong, _short(b"\x44", 0x53, 0x80)), (Byte, _plain(0x51)), (Short, _plain(0x61)), (Int, _short(None, 0x54, 0x71, True)),
     (Timestamp, _plain(0x83)), (int, _short(None, 0x55, 0x81, True)), (Float, _plain(0x72)), (float, _plain(0x82)), (uuid.UUID, _plain(0x98)),
-    (Decimal, lambda it: bytes([_code(it, [it])]) + it), (Symbol, _variable(0xA3)), (Char, _plain(0x73)), (str, _variable(0xA1)),
+    (Decimal, lambda it: bytes([_code(it, [it])]) + bytes(it)), (Symbol, _variable(0xA3)), (Char, _plain(0x73)), (str, _variable(0xA1)),
     (bytes, _variable(0xA0)), (list, _write_list), (Mapping, lambda it: _sized(0xC1, *_parts(it))), (Array, lambda it: _sized(0xE0, *_parts(it))),
 ]  # fmt: skip
