@@ -104,7 +104,7 @@ static void try_end(void)
     CHECK(gives(&engine, END_5, AMQP1_KIND_ENDED, AMQP1_ANSWER_ALL & ~AMQP1_ANSWER_ENDS) == AMQP1_NOTHING && sends(&engine, ""));
     CHECK(session_state_of(&engine, 5) == AMQP1_SESSION_END_RECEIVED);
     CHECK(again(&engine, AMQP1_ANSWER_ENDS) == AMQP1_DONE && sends(&engine, END_0) && session_state_of(&engine, 5) == 99);
-    CHECK(again(&engine, AMQP1_ANSWER_ENDS) == AMQP1_NOT_RELEASED && refused_as(&engine, "NoSession", "") && sends(&engine, ""));
+    CHECK(again(&engine, AMQP1_ANSWER_ENDS) == AMQP1_REFUSED && refused_as(&engine, "NotEnded", "") && sends(&engine, ""));
     CHECK(gives(&engine, BEGIN_5, AMQP1_KIND_BEGIN_WANTED, AMQP1_ANSWER_ALL) == AMQP1_REFUSED && refused_as(&engine, "SessionInUse", ""));
     CHECK(amqp1_write_begin(text, sizeof text, &length, 0, 5000, 5000, UINT32_MAX) == AMQP1_DONE && sends(&engine, ""));
     CHECK(amqp1_answer_begin(&engine, heard, heard_bytes, 65536, text, length) == AMQP1_DONE);
