@@ -4,8 +4,8 @@
     tools/gate/written_again.py
 
 Each of `tools/gen/expected_*.py` that is a program writes the rows of a program of `crates/`, or those of `tools/try_c`, `tools/gate/definitions_read.py` the tables of
-docs/READING.md and the first lines of `crates/*/specs/`, `tools/gate/wrong_bodies.py` docs/WRONG_BODIES.md, and `tools/bench/plots.py` a page and a
-picture of each table in docs/bench. A file that comes out otherwise than it is stored is named, and put back as it was: then run its tool by hand, and see what changed. The last line is 'N passed, M failed', a tool each.
+docs/READING.md and the first lines of `crates/*/specs/`, `tools/gate/wrong_bodies.py` docs/WRONG_BODIES.md, `tools/touches.py` the blocks of CONTRIBUTING.md
+that say what names a thing, and `tools/bench/plots.py` a page and a picture of each table in docs/bench. A file that comes out otherwise than it is stored is named, and put back as it was: then run its tool by hand, and see what changed. The last line is 'N passed, M failed', a tool each.
 """
 
 import subprocess
@@ -17,7 +17,7 @@ sys.path.insert(0, str(Path(__file__).resolve().parents[1]))
 from shared.command import command
 
 ROOT = Path(__file__).resolve().parents[2]
-PAGES = [ROOT / "docs" / "READING.md", ROOT / "docs" / "WRONG_BODIES.md"]
+PAGES = [ROOT / "docs" / "READING.md", ROOT / "docs" / "WRONG_BODIES.md", ROOT / "CONTRIBUTING.md"]
 
 
 def stored():
@@ -38,6 +38,7 @@ def tools():
             yield tool, []
     yield ROOT / "tools" / "gate" / "definitions_read.py", ["--write"]
     yield ROOT / "tools" / "gate" / "wrong_bodies.py", ["--write"]
+    yield ROOT / "tools" / "touches.py", ["--write"]
     yield ROOT / "tools" / "bench" / "plots.py", []
 
 

@@ -2,17 +2,25 @@
 
 The model knows the standard alone (AMQP 1.0 part 2, sections 2.6.12 and 2.7.6). Numbers stand near 0, near 2^31 and near 2^32; transfers
 of both sides open deliveries under links that ask for echoes, that ask for none, and that are gone.
+
+Of 2,300 rows that are drawn 200 are stored. What was compared are the kinds that session_kinds.py names: 802 in the
+2,300, each of them in the 200, where 200 that are taken as they were drawn have 611. They are calls with their role,
+settlement and state; shapes of ranges, and whether these pass 2^31 or the wrap; counts of deliveries that are meant,
+left and open; runs of echoes; links that ask, ask for none or are gone; windows, and refusals. Wrong models were
+compared too: 57 of 62 change an answer of the 2,300, and each of these one of the 200. `expected_session.py --random`
+writes others, and says which kinds they reach that no stored row does.
 """
 
 from random import Random
 
-from gen.row import ACCEPTED, LAST, RECEIVED, RELEASED, detach, disposition, echo, flow, refused, transfer
+from gen import session_kinds as kinds
+from gen.row import ACCEPTED, LAST, RECEIVED, RELEASED, SessionRows, detach, disposition, echo, flow, refused, transfer
 
 CIRCLE, HALF = 2**32, 2**31
-ROWS, CALLS = 2000, 12
+CALLS = 12
 
-# so many more rows, in which this side settles by itself too
-SETTLED_HERE = 300
+# so many rows are drawn, in the last ones of which this side settles by itself too, and so many of them are stored
+DRAWN, SETTLED_HERE, STORED = 2300, 300, 200
 
 # input handles, and whether the link that stands under one at first asks for echoes; under 9 there is none
 HANDLES = {0: True, 4: False, 6: True}
@@ -99,11 +107,12 @@ class Model:
 
 
 class Script:
-    """A row: calls that chance chooses, each with the model's answer."""
+    """A row: calls that chance chooses, each with the model's answer, and the kinds of them that it reached."""
 
-    def __init__(self, rows, seed):
+    def __init__(self, rows, seed, settles_here):
         self.rows, self.chance, self.model = rows, Random(seed), Model()
-        self.kinds = 20 if seed < ROWS else 25
+        self.kinds = 25 if settles_here else 20
+        self.reached = set()
         rows.row(f"Random dispositions, {seed}")
         rows.new("Mapped")
         rows.ask("recv 7 " + flow(0, 1000), "none")
@@ -141,17 +150,20 @@ class Script:
 
     def sent(self):
         handle, tag, settled = self.handle(), self.tag(), self.chance.choice([None, False, True, None])
+        self.reached.update(kinds.sent(self.model, handle, tag, settled))
         number = self.model.send(handle, tag, settled)
         self.rows.ask(f"first {handle} {transfer(text=tag, settled=settled)}6d", f"out 0 {transfer(number, tag, settled=settled)} 6d")
 
     def received(self):
         number, handle, tag, settled = self.near(), self.handle(), self.tag(), self.chance.choice([None, None, None, True])
+        self.reached.update(kinds.received(self.model, number, handle, tag, settled))
         is_taken = self.model.receive(number, handle, tag, settled)
         self.rows.ask(f"recv 7 {transfer(number, tag, handle, settled=settled)}6d", "none" if is_taken else refused("UnattachedHandle"))
 
     def detached(self):
         """The peer detaches a link, or another link takes its place."""
         handle = self.chance.choice([0, 4, 6])
+        self.reached.update(kinds.detached(self.model, handle))
         if handle in self.model.asking and self.chance.randrange(2):
             self.rows.ask("recv 7 " + detach(handle), "detach " + detach(self.model.unlink(handle)))
         else:
@@ -164,13 +176,15 @@ class Script:
     def hear(self, first, last, settled, state, of_receiver):
         """A disposition comes; the walk reads what it means, and at most one more."""
         meant = self.model.meant(first, last, of_receiver)
+        runs = self.model.echoes(meant, state)
+        self.reached.update(kinds.heard(self.model, first, last, settled, state, of_receiver, meant, runs))
         before = len(self.model.sent if of_receiver else self.model.received)
         line = "recv 7 " + disposition(first, last, settled, state, of_receiver, self.chance.randrange(4) == 0)
         if settled:
             self.model.settle(meant, of_receiver)
             self.rows.ask(line, "none")
         else:
-            self.rows.ask(line, "list", *("disposition " + echo(*run, state) for run in self.model.echoes(meant, state)))
+            self.rows.ask(line, "list", *("disposition " + echo(*run, state) for run in runs))
         is_forward = ((first if last is None else last) - first) % CIRCLE < HALF
         bounds = (len(meant), len(meant) + 1, before.bit_length() + 1) if is_forward else (0, 0, 0)
         self.rows.ask("walk {} {} {}".format(*bounds), "ok")
@@ -178,8 +192,11 @@ class Script:
     def given(self):
         first, last = self.range()
         state = self.chance.choice([ACCEPTED, RELEASED, RECEIVED, None])
-        said = disposition(first, last, self.chance.randrange(2) == 0, state, self.chance.randrange(2) == 0)
+        settled, of_receiver = self.chance.randrange(2) == 0, self.chance.randrange(2) == 0
+        said = disposition(first, last, settled, state, of_receiver)
+        before = self.model.peer_window
         self.model.give(first, last, state)
+        self.reached.update(kinds.given(self.model, first, last, settled, state, of_receiver, before))
         self.rows.ask("disposition " + said, "out 0 " + said)
 
     def settled_here(self):
@@ -188,6 +205,7 @@ class Script:
         first, last = self.range()
         gone = self.model.meant(first, last, is_sender)
         self.model.settle(gone, is_sender)
+        self.reached.update(kinds.settled_here(self.model, first, last, is_sender, gone))
         role = "sender" if is_sender else "receiver"
         self.rows.ask(f"settle {role} {first}" + ("" if last is None else f" {last}"), str(len(gone)))
 
@@ -220,6 +238,7 @@ class Script:
 
     def open_ones(self):
         """Every link asks for echoes now, so that a disposition without a state over each half of the circle shows what is open."""
+        self.reached.update(kinds.open_ones(self.model))
         for handle in (*HANDLES, 9):
             self.link(handle, True)
         for of_receiver in (True, False):
@@ -227,12 +246,38 @@ class Script:
                 self.hear(first, (first + HALF - 1) % CIRCLE, False, None, of_receiver)
 
 
+def script(rows, seed, settles_here):
+    """Writes a row; the kinds that it reached."""
+    it = Script(rows, seed, settles_here)
+    for _ in range(CALLS):
+        it.call()
+        if it.chance.randrange(6) == 0:
+            it.show()
+    it.show()
+    it.open_ones()
+    return it.reached
+
+
+def drawn(rows, seed):
+    return script(rows, seed, settles_here=seed >= DRAWN - SETTLED_HERE)
+
+
+def chosen():
+    """The seeds of the rows that are stored: in turn that which reaches most that is left. Where nothing is left, all is once more."""
+    reached = {seed: drawn(SessionRows(), seed) for seed in range(DRAWN)}
+    seeds, left = [], set()
+    for _ in range(STORED):
+        left = left or set().union(*reached.values())
+        seeds.append(max(reached, key=lambda seed: len(reached[seed] & left)))
+        left -= reached.pop(seeds[-1])
+    return sorted(seeds)
+
+
 def write(rows):
-    for seed in range(ROWS + SETTLED_HERE):
-        script = Script(rows, seed)
-        for _ in range(CALLS):
-            script.call()
-            if script.chance.randrange(6) == 0:
-                script.show()
-        script.show()
-        script.open_ones()
+    """The rows that are stored; the kinds that they reached."""
+    return set().union(*(drawn(rows, seed) for seed in chosen()))
+
+
+def write_random(rows, seed, count):
+    """So many others, drawn from the seed; this side settles by itself in each eighth."""
+    return set().union(*(script(rows, f"{seed}/{at}", settles_here=at % 8 == 7) for at in range(count)))
