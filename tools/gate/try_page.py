@@ -215,13 +215,13 @@ async def watched(path, streams, interrupts):
     port = int((await watcher.stdout.readline()).split(b":")[-1])
     reader, writer = await asyncio.open_connection("127.0.0.1", port)
     writer.write(streams["A"])
-    await asyncio.wait_for(reader.readexactly(len(streams["B"])), 20)
+    await asyncio.wait_for(reader.readexactly(len(streams["B"])), 60)
     if interrupts:
         await asyncio.sleep(0.5)
         watcher.send_signal(signal.SIGINT)
     else:
         writer.write_eof()
-    told, wrong = await asyncio.wait_for(watcher.communicate(), 20)
+    told, wrong = await asyncio.wait_for(watcher.communicate(), 60)
     writer.close()
     server.close()
     return told.decode() + wrong.decode()
