@@ -92,6 +92,7 @@ unsafe extern "C" {
         answer: *mut Took,
     ) -> i32;
     fn amqp1_answer(place: *mut Place, record: *const Record, input: *const u8, input_length: usize, flags: u16, number: u32) -> i32;
+    fn amqp1_heard(place: *mut Place, now: u64) -> i32;
     fn amqp1_tick(place: *mut Place, now: u64, answer: *mut Ticked) -> i32;
     fn amqp1_send(
         place: *mut Place,

@@ -1,7 +1,7 @@
 //! How a stream begins, before its first frame, and the time: protocol headers and SASL of either side (AMQP 1.0 part 2, sections 2.2 and 2.4.5; part 5,
 //! section 5.3).
 
-use super::{Engine, Error, How, LoginHead, NONE, Operation, Place, Record, Stop, Took, amqp1_new, amqp1_take, amqp1_tick, stop};
+use super::{Engine, Error, How, LoginHead, NONE, Operation, Place, Record, Stop, Took, amqp1_heard, amqp1_new, amqp1_take, amqp1_tick, stop};
 
 /// How a stream begins, and on which side.
 #[derive(Clone, Copy, Debug)]
@@ -126,6 +126,13 @@ impl Engine {
         let (given, places) = (bytes.as_ptr(), records.as_mut_ptr());
         let status = unsafe { amqp1_take(&mut self.place, now, given, bytes.len(), places, records.len(), &mut took) };
         Ok((took.taken, took.written, stop(status, took.wanted)?))
+    }
+
+    /// Tells that bytes came at this time, though none of them were given to [`Engine::take_at`] yet: the peer is not silent. [`Engine::take_at`] says it of
+    /// what it takes.
+    pub fn heard(&mut self, now: u64) -> Result<(), Error> {
+        let status = unsafe { amqp1_heard(&mut self.place, now) };
+        self.outcome(status)
     }
 
     /// Tells the time, and does what is due: an empty frame, where nothing was sent for half of the peer's idle-time-out; a Close, where nothing was taken

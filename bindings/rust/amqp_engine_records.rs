@@ -9,7 +9,8 @@ use super::Error;
 pub struct Record {
     /// One of [`kind`].
     pub kind: u8,
-    /// The state of deliveries: 0 none, 1 accepted, 2 rejected, 3 released, 4 modified, 5 received, 6 another.
+    /// The state of deliveries: 0 none, 1 accepted, 2 rejected, 3 released, 4 modified, 5 received, 6 another. Of an attach its termini: 0 none, 1 a
+    /// source, 2 a target, 3 both.
     pub outcome: u8,
     /// Those of [`flag`].
     pub flags: u16,
@@ -19,17 +20,17 @@ pub struct Record {
     pub output: u32,
     /// The peer's handle of the link: of all calls `link_on` alone takes it.
     pub input: u32,
-    /// The number of the delivery; of a disposition the first one.
+    /// The number of the delivery; of a disposition the first one. Of an attach the low 32 bits of its max-message-size.
     pub first: u32,
-    /// The number of the delivery; of a disposition the last one.
+    /// The number of the delivery; of a disposition the last one. Of an attach the high 32 bits of its max-message-size.
     pub last: u32,
     /// The format of the message.
     pub format: u32,
     /// The delivery count of a flow, the initial one of an attach.
     pub count: u32,
-    /// The credit of a flow.
+    /// The credit of a flow. Of an attach its snd-settle-mode: 0 unsettled, 1 settled, 2 mixed.
     pub credit: u32,
-    /// How many messages the sender of a flow has ready.
+    /// How many messages the sender of a flow has ready. Of an attach its rcv-settle-mode: 0 first, 1 second.
     pub available: u32,
     /// Why the frame was refused, by its number ([`Engine::refusal_text`]). 0 where it was not.
     pub refusal: u32,

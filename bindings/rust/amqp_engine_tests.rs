@@ -41,6 +41,8 @@ fn sending() -> Engine {
     assert_eq!(engine.link(7, Role::Sender, ReceiverSettleMode::First, "out").unwrap(), 0);
     let (record, input) = hear(&mut engine, 3, ATTACH);
     assert_eq!((record.kind, record.session, record.input, record.output, record.performative(&input)), (kind::ATTACHED, 7, 5, 0, ATTACH));
+    // no termini, no limit, and the modes that it does not say: mixed and first
+    assert_eq!((record.outcome, record.first, record.last, record.credit, record.available), (0, 0, 0, 2, 0));
     sent(&mut engine);
     engine
 }
@@ -88,6 +90,16 @@ fn is_taken(engine: &mut Engine, handle: u8) -> bool {
         Err(Error::Refused(refusal)) if refusal.name == "UnattachedHandle" => !sent(engine).is_empty(),
         Err(error) => panic!("{error}"),
     }
+}
+
+#[test]
+fn an_attach_tells_its_terms() {
+    let mut engine = sending();
+    assert_eq!(engine.link(7, Role::Sender, ReceiverSettleMode::First, "b").unwrap(), 1);
+    let attach = b"\0\x53\x12\xc0\x1e\x0b\xa1\x01b\x43\x41\x50\x01\x50\x01\0\x53\x28\x45\0\x53\x29\x45\x40\x40\x40\x80\0\0\0\x05\0\0\0\x07";
+    let (record, _) = hear(&mut engine, 3, attach);
+    assert_eq!((record.kind, record.output, record.outcome), (kind::ATTACHED, 1, 3));
+    assert_eq!((record.first, record.last, record.credit, record.available), (7, 5, 1, 1));
 }
 
 #[test]
@@ -257,6 +269,24 @@ fn an_opening_is_late() {
     assert_eq!(engine.tick(1049).unwrap(), Tick { due: Due::Nothing, next: Some(1050) });
     assert_eq!(engine.tick(1050).unwrap(), Tick { due: Due::OpeningLate, next: None });
     assert!(engine.is_over().unwrap());
+}
+
+#[test]
+fn bytes_that_wait_are_heard() {
+    // an Open with an idle-time-out of 100, and the peer's without one
+    let open = b"\0\x53\x10\xc0\x09\x05\xa1\x01m\x40\x40\x40\x52\x64";
+    let mut engine = Engine::with_opening([7; 16], open, &Opening::Plain, 0, None).unwrap();
+    let mut records = [Record::default(); 2];
+    engine.open().unwrap();
+    engine.take_at(10, b"AMQP\0\x01\0\0", &mut records).unwrap();
+    engine.take_at(10, &framed(0, b"\0\x53\x10\xc0\x04\x01\xa1\x01p"), &mut records).unwrap();
+    assert!(sent(&mut engine).ends_with(open));
+    assert_eq!(engine.tick(10).unwrap(), Tick { due: Due::Nothing, next: Some(110) });
+    // a part of a frame waits
+    assert_eq!(engine.take_at(109, b"\0\0\0\x08", &mut records).unwrap().0, 0);
+    engine.heard(109).unwrap();
+    assert_eq!(engine.tick(110).unwrap(), Tick { due: Due::Nothing, next: Some(209) });
+    assert_eq!(engine.tick(209).unwrap(), Tick { due: Due::PeerSilent, next: None });
 }
 
 #[test]

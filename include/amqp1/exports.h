@@ -145,6 +145,10 @@ int32_t amqp1_take(amqp1 *place, uint64_t now, const uint8_t *input, size_t inpu
 int32_t amqp1_answer(amqp1 *place, const amqp1_record *record, const uint8_t *input, size_t input_length, uint16_t flags,
                      uint32_t number);
 
+/* Tells that bytes came at this time, in milliseconds, though none of them were given to amqp1_take yet: the peer is not silent (section 2.4.5).
+   amqp1_take says it of what it takes. Call it where more was read than is taken at once, as where records or memory are short. DONE. */
+int32_t amqp1_heard(amqp1 *place, uint64_t now);
+
 /* Tells the time, in milliseconds, and does what is due (section 2.4.5): from both Opens on an empty frame, where nothing was sent for half of the
    peer's idle-time-out; a Close for amqp:resource-limit-exceeded, where nothing came for as long as this side's own; and the end of a connection of
    which headers, SASL and both Opens have not passed within the limit of `how`. `answer` gets what it was, and when the next tick is wanted. Call it

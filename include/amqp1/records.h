@@ -210,7 +210,8 @@ enum amqp1_why {
 #define AMQP1_NONE 0xffffffffu
 
 /* What one received frame says: 96 bytes without padding. A field of which the frame says nothing is 0; session, output and input are AMQP1_NONE
-   then. Places are those in the input of the call that wrote the record. */
+   then. Places are those in the input of the call that wrote the record. What an attach says in `outcome`, `first`, `last`, `credit` and
+   `available` stands below the fields. */
 typedef struct amqp1_record {
     uint8_t kind;        /* an amqp1_kind */
     uint8_t outcome;     /* an amqp1_outcome */
@@ -233,6 +234,11 @@ typedef struct amqp1_record {
     uint16_t tag_size;   /* how many bytes the tag has, and 65535 where it has more */
     uint8_t tag[32];     /* the tag, and zeros after it; of a longer one zeros, since that stands in the performative */
 } amqp1_record;
+
+/* Of an attach (section 2.7.3): `outcome` says which termini the peer's end has, 0 none, 1 a source, 2 a target, 3 both; a peer that answers with no
+   source, or no target, of its own refuses the link (section 2.6.3). The largest message that the peer takes has ((uint64_t)last << 32 | first) bytes,
+   and 0 says that there is no limit. `credit` is its snd-settle-mode, 0 unsettled, 1 settled, 2 mixed (section 2.8.2), and `available` its
+   rcv-settle-mode, 0 first, 1 second (section 2.8.3): the default where the frame does not say it. So does AMQP1_KIND_ATTACH_WANTED. */
 
 /* Of records before the stream is open (part 5, section 5.3): the payload is what is said above; of LOGIN_ASKED and NOT_OFFERED the name of the
    mechanism stands at `first`, of `last` bytes; of LOGIN_ASKED the host stands at `count`, of `credit` bytes. A payload or a host that is not there

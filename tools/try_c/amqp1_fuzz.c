@@ -161,6 +161,8 @@ static void tick(amqp1 *engine, uint64_t more)
     amqp1_ticked ticked = { 9, 9, 9 };
     int is_over;
     now += more;
+    if (more & 1)
+        MUST(amqp1_heard(engine, now) == AMQP1_DONE);
     MUST(amqp1_tick(engine, now, &ticked) == AMQP1_DONE && ticked.due <= AMQP1_DUE_PEER_SILENT && !ticked.reserved && ticked.next > now);
     MUST(amqp1_is_over(engine, &is_over) == AMQP1_DONE);
     MUST(is_over ? ticked.next == AMQP1_NEVER : ticked.due <= AMQP1_DUE_BEAT);

@@ -8,6 +8,13 @@
 #define AT_Q "d00000000700000001 a1(71)"
 #define ACCEPTED_STATE "00532445"
 
+/* The record of an Attach says which termini it has, its max-message-size and its settle modes. */
+static int attach_is(unsigned termini, uint64_t limit, unsigned sender, unsigned receiver)
+{
+    return heard[0].outcome == termini && heard[0].first == (uint32_t)limit && heard[0].last == (uint32_t)(limit >> 32) && heard[0].credit == sender &&
+           heard[0].available == receiver;
+}
+
 /* An engine with a link on which this side sends: output handle 0, input handle 5. */
 static amqp1 sender_attached(void)
 {
@@ -25,6 +32,7 @@ static amqp1 sender_attached(void)
     CHECK(hears_one(&engine, "[02000003 005312 c0(03 " OUT " 5205 41)]", AMQP1_KIND_ATTACHED));
     CHECK(heard[0].session == 7 && heard[0].input == 5 && heard[0].output == 0 && heard[0].flags == (AMQP1_FLAG_RECEIVER | AMQP1_FLAG_LINKED));
     CHECK(is(amqp1_bytes_field(amqp1_performative(heard_bytes, heard), AMQP1_ATTACH_NAME), "6f7574"));
+    CHECK(attach_is(0, 0, 2, 0));
     return engine;
 }
 
@@ -112,6 +120,23 @@ static void try_unattached(void)
     amqp1_free(&engine);
 }
 
+/* What Attaches say: as a receiver, with both termini, one of them, or none. */
+static void try_attaches(void)
+{
+    amqp1 engine = begun();
+    CHECK(attaches(&engine, "a", AMQP1_SENDER, AMQP1_FIRST) == 0 && attaches(&engine, "b", AMQP1_SENDER, AMQP1_FIRST) == 1);
+    CHECK(attaches(&engine, "c", AMQP1_SENDER, AMQP1_FIRST) == 2 && attaches(&engine, "d", AMQP1_SENDER, AMQP1_FIRST) == 3);
+    CHECK(hears_one(&engine, "[02000003 005312 c0(0b a1(61) 43 41 5001 5001 00532845 00532945 40 40 40 80 0000000500000007)]", AMQP1_KIND_ATTACHED));
+    CHECK(attach_is(3, ((uint64_t)5 << 32) + 7, 1, 1) && heard[0].output == 0 && heard[0].count == 0);
+    CHECK(hears_one(&engine, "[02000003 005312 c0(0b a1(62) 5201 41 5002 5000 00532845 40 40 40 40 5309)]", AMQP1_KIND_ATTACHED));
+    CHECK(attach_is(1, 9, 2, 0) && heard[0].output == 1);
+    CHECK(hears_one(&engine, "[02000003 005312 c0(07 a1(63) 5202 41 40 40 40 00532945)]", AMQP1_KIND_ATTACHED));
+    CHECK(attach_is(2, 0, 2, 0) && heard[0].output == 2);
+    CHECK(hears_one(&engine, "[02000003 005312 c0(0b a1(64) 5203 41 5000 40 40 40 40 40 40 80 ffffffffffffffff)]", AMQP1_KIND_ATTACHED));
+    CHECK(attach_is(0, UINT64_MAX, 0, 0) && heard[0].output == 3);
+    amqp1_free(&engine);
+}
+
 /* The peer accepts both deliveries, unsettled, and the engine settles them; then one of the peer's that is settled, with a state of no number. */
 static void try_dispositions(amqp1 *engine)
 {
@@ -146,7 +171,7 @@ static amqp1 receiving(void)
     size_t length;
     CHECK(hears_refused(&engine, "[02000003 005312 c0(0a " IN " 5206 42 40 40 40 40 40 40 5209)]", AMQP1_WHY_SESSION_LINK_NAME_NOT_FOUND));
     CHECK(heard[0].kind == AMQP1_KIND_ATTACH_WANTED && heard[0].session == 7 && heard[0].input == 6 && heard[0].output == AMQP1_NONE);
-    CHECK(heard[0].flags == (AMQP1_FLAG_LINKED | AMQP1_FLAG_COUNTED) && heard[0].count == 9);
+    CHECK(heard[0].flags == (AMQP1_FLAG_LINKED | AMQP1_FLAG_COUNTED) && heard[0].count == 9 && attach_is(0, 0, 2, 0));
     CHECK(amqp1_link_on(&engine, 7, 6, AMQP1_RECEIVER, AMQP1_SECOND, "in", &handle) == AMQP1_DONE && handle == 0);
     CHECK(amqp1_write_attach(text, sizeof text, &length, "in", handle, AMQP1_RECEIVER, 2, AMQP1_SECOND, "q", NULL, 0) ==
           AMQP1_DONE);
@@ -240,6 +265,7 @@ void try_links(void)
     amqp1 engine = sender_attached();
     try_too_long();
     try_unattached();
+    try_attaches();
     try_flows(&engine);
     try_transfers(&engine);
     try_dispositions(&engine);

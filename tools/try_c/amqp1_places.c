@@ -79,6 +79,7 @@ static void try_empty(amqp1 *place)
     CHECK(record.kind == 7 && record.tag[31] == 7);
     CHECK(amqp1_send(place, &head, 1, in, sizeof in, &sent, 1, &went) == AMQP1_NO_ENGINE && went.taken == 7 && went.used == 7 && sent.number == 7);
     CHECK(amqp1_cut(place, &head, in, sizeof in, &cut) == AMQP1_NO_ENGINE && !memcmp(&cut, &old, sizeof cut));
+    CHECK(amqp1_heard(place, 9) == AMQP1_NO_ENGINE);
     CHECK(amqp1_tick(place, 9, &ticked) == AMQP1_NO_ENGINE && ticked.next == 7 && ticked.due == 7);
     CHECK(place->full == 0);
 }

@@ -423,7 +423,10 @@ static void try_time(void)
     }
     CHECK(ticks(&engine, 450, AMQP1_DUE_NOTHING, 600));
     CHECK(ticks(&engine, 700, AMQP1_DUE_BEAT, 900) && ticks(&engine, 900, AMQP1_DUE_BEAT, 950) && sends(&engine, "[02000000]"));
-    CHECK(ticks(&engine, 950, AMQP1_DUE_PEER_SILENT, AMQP1_NEVER));
+    /* what came and is not taken counts, once it is told */
+    CHECK(amqp1_heard(&engine, 940) == AMQP1_DONE && ticks(&engine, 950, AMQP1_DUE_NOTHING, 1100) && !is_over(&engine));
+    CHECK(ticks(&engine, 1400, AMQP1_DUE_BEAT, 1440) && sends(&engine, "[02000000]"));
+    CHECK(ticks(&engine, 1440, AMQP1_DUE_PEER_SILENT, AMQP1_NEVER));
     CHECK(sends(&engine, "[02000000 005318 c0(01 00531d c0(01 a3(616d71703a7265736f757263652d6c696d69742d6578636565646564)))]"));
     try_over(&engine);
     amqp1_free(&engine);

@@ -13,8 +13,9 @@ sys.path.insert(0, str(Path(__file__).resolve().parents[1]))
 sys.path.insert(0, str(Path(__file__).resolve().parents[2] / "bindings" / "python"))
 
 from amqp_engine import (
-    ACCEPTED, RECEIVER, RELEASED, SECOND, SENDER, Attach, BadArgument, Begin, Closed, Delivery, Detach, Detached, Disposed, Disposition, Driver, Engine,
+    ACCEPTED, FIRST, RECEIVER, RELEASED, SECOND, SENDER, Attach, BadArgument, Begin, Closed, Delivery, Detach, Detached, Disposed, Disposition, Driver, Engine,
     Error, Flow, Flowed, Refusal, Server, SessionBegan, SessionEnded, Transfer, Transferred, address_of, data, rejected,
+    source, target,
 )  # fmt: skip
 from amqp_engine.driver import FORMATTED, MORE, NONE, NUMBERED
 from amqp_engine.library import How, LoginHead, Place, load
@@ -259,6 +260,21 @@ def transfers_go_by_their_heads_and_records_come():
     assert pair.carry()[0] == [Disposed(0, None, None, RECEIVER, True, ACCEPTED, 0, 1)]
     assert pair.client.transfer(0, Transfer(handle, delivery_tag=b"u", settled=True), b"x") == 2
     assert (pair.client.unfit, driver.unfit) == (0, 0)
+
+
+@test
+def an_attach_tells_its_terms():
+    pair = mapped()
+    for name, ends, said in (
+        ("both", {"source": source("from"), "target": target("to"), "max_message_size": 5 << 32 | 7, "snd_settle_mode": 1, "rcv_settle_mode": 1}, (3, 7, 5, 1, 1)),
+        ("source", {"source": source("from"), "max_message_size": 9}, (1, 9, 0, 2, 0)),
+        ("target", {"target": target("to"), "snd_settle_mode": 0}, (2, 0, 0, 0, 0)),
+        ("neither", {}, (0, 0, 0, 2, 0)),
+    ):
+        handle = pair.client.link(0, name, SENDER, ends.get("rcv_settle_mode", FIRST))
+        pair.client.attach(0, Attach(name, handle, SENDER, initial_delivery_count=0, **ends))
+        (told,) = pair.server.engine.take(pair.client.to_send()).records
+        assert (told.outcome, told.first, told.last, told.credit, told.available) == said, (name, told)
 
 
 def places(data):

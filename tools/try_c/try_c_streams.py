@@ -116,7 +116,9 @@ def time_passes():
     assert one.tick(10) == (DUE_NOTHING, 60)
     assert other.tick(10) == (DUE_NOTHING, 110), (other.tick(10), other.state)
     assert one.tick(60).due == DUE_BEAT and one.to_send() == EMPTY_FRAME
-    assert other.tick(110) == (DUE_PEER_SILENT, None) and other.has_ended
+    other.heard(109)
+    assert other.tick(110) == (DUE_NOTHING, 209) and not other.has_ended
+    assert other.tick(209) == (DUE_PEER_SILENT, None) and other.has_ended
     assert b"resource-limit-exceeded" in other.to_send()
 
 

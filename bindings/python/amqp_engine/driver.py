@@ -52,7 +52,10 @@ _HEADER = b"AMQP\0\1\0\0"
 
 class Record(NamedTuple):
     """What one received frame says. `output` is this side's handle of its link, `input` the peer's; `at`, `size`, `payload_at` and `payload` are places in
-    the bytes that were given, and how many."""
+    the bytes that were given, and how many.
+
+    Of an attach `outcome` says which termini it has: 0 none, 1 a source, 2 a target, 3 both. Its max-message-size is `last << 32 | first`, 0 where there
+    is no limit; `credit` is its snd-settle-mode, and `available` its rcv-settle-mode."""
 
     kind: int
     outcome: int
@@ -165,7 +168,7 @@ class Driver(Requests):
         functions = lib.load(library)
         super().__init__(functions.amqp1_call, functions.amqp1_free)
         self._take, self._send, self._cut, self._tick = functions.amqp1_take, functions.amqp1_send, functions.amqp1_cut, functions.amqp1_tick
-        self._answer = functions.amqp1_answer
+        self._answer, self._heard = functions.amqp1_answer, functions.amqp1_heard
         self._records = ctypes.create_string_buffer(most * _RECORD.size)
         self._most, self._took, self._went, self._ticked = most, lib.Took(), lib.Went(), lib.Ticked()
         self._parts = ctypes.create_string_buffer(_PARTS.size)
@@ -206,6 +209,11 @@ class Driver(Requests):
     def respond(self, response: bytes) -> None:
         """A client's response to a challenge. Raises `Refusal` where there was none (`WrongTime`)."""
         self._ask(_RESPOND, response)
+
+    def heard(self, now: int) -> None:
+        """Tells that bytes came at this time, in milliseconds, though none of them were given to `take` yet: the peer is not silent. `take` says it of what it
+        takes."""
+        self._judge(self._heard(ctypes.byref(self._place), now))
 
     def tick(self, now: int) -> Tick:
         """Tells the time, in milliseconds, and does what is due: an empty frame, where nothing was sent for half of the peer's `idle_time_out`; a Close,

@@ -11,7 +11,7 @@ use Rattle.amqp_driver.specs.declared.status.Status.{Status as DriverStatus}
 use Rattle.amqp_driver.specs.declared.cut.Cut.{Cut}
 use Rattle.amqp_driver.specs.Cutting.{cut_of}
 use Rattle.amqp_driver.specs.Driver.{seen}
-use Rattle.amqp_driver.specs.StreamTaking.{TakesStream}
+use Rattle.amqp_driver.specs.StreamTaking.{TakesStream, heard}
 use Rattle.amqp_driver.specs.StreamTicking.{PostsStream, TicksStream}
 use Rattle.amqp_idle.specs.declared.due.Tick.{Tick}
 use Rattle.amqp1.specs.declared.exports.Took.{Took}
@@ -29,7 +29,7 @@ use Rattle.amqp1.specs.Status.{status_number, taken_status}
 use Rattle.amqp1.specs.declared.operation.Operation.{Operation}
 use Rattle.amqp1.specs.declared.status.Status.{Status}
 use Rattle.amqp1.specs.declared.status.Status.TheVariants as status
-use Rattle.amqp1.specs.Place.{AnswersThere, CallsThere, CutsThere, MadeThere, SendsThere, TakesThere, TicksThere}
+use Rattle.amqp1.specs.Place.{AnswersThere, CallsThere, CutsThere, HearsThere, MadeThere, SendsThere, TakesThere, TicksThere}
 
 -- what is said of what is there is so
 pub of_some : {B : Type 0} (P : B → Type 0) (r : Option B) (x : B) → r ≡ Some x → IsSomeAnd r P → P x
@@ -114,6 +114,19 @@ sends_there g before after heads bytes old new z a s was is b f e sends last = r
   why = s;
   status_is = kept (taken_status s) z e ∙ e;
   sends = sends;
+  last_is = last;
+}
+
+pub hears_there : (before after : Option ClientView) (now : ℕ) (z : ℤ) (was is : ClientView) → before ≡ Some was → after ≡ Some is
+    → z ≡ pos (status_number status.Done) → is.stream ≡ record was.stream { clock = heard 1 now was.stream.clock } → is.last ≡ was.last
+    → HearsThere before now (to_z w32 (of_z w32 z)) after
+hears_there before after now z was is b f e hears last = record {
+  was = was;
+  is = is;
+  lay_there = b;
+  lies_there = f;
+  status_is = kept status.Done z e ∙ e;
+  hears = hears;
   last_is = last;
 }
 

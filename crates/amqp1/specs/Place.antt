@@ -12,7 +12,7 @@ use Rattle.amqp_driver.specs.declared.record.Record.{Record}
 use Rattle.amqp_driver.specs.declared.status.Status.{Status as DriverStatus}
 use Rattle.amqp_driver.specs.Cutting.{cut_of}
 use Rattle.amqp_driver.specs.Driver.{seen}
-use Rattle.amqp_driver.specs.StreamTaking.{TakesStream}
+use Rattle.amqp_driver.specs.StreamTaking.{TakesStream, heard}
 use Rattle.amqp_driver.specs.StreamTicking.{PostsStream, TicksStream}
 use Rattle.amqp1.specs.declared.exports.Took.{Took}
 use Rattle.amqp1.specs.declared.exports.Ticked.{Ticked}
@@ -92,6 +92,16 @@ pub record SendsThere (g : Relays PlainRelay) (before : Option ClientView) (head
   pub why : DriverStatus
   pub status_is : Is z (taken_status why)
   pub sends : PostsStream g was.stream heads bytes old why answer.taken answer.used is.stream new
+  pub last_is : is.last ≡ was.last
+
+-- the stream of the client that lay there is told that bytes came, and that client lies there again
+pub record HearsThere (before : Option ClientView) (now : ℕ) (z : ℤ) (after : Option ClientView) : Type 0 where
+  pub was : ClientView
+  pub is : ClientView
+  pub lay_there : before ≡ Some was
+  pub lies_there : after ≡ Some is
+  pub status_is : Is z status.Done
+  pub hears : is.stream ≡ record was.stream { clock = heard 1 now was.stream.clock }
   pub last_is : is.last ≡ was.last
 
 -- the stream of the client that lay there is told the time, and that client lies there again

@@ -5,7 +5,7 @@ ghost use Rattle.amqp_memory.specs.Refusal.{SomeRefused};
 ghost use Rattle.amqp_sasl.specs.declared.opening.Phase.TheVariants.{Fresh};
 ghost use Rattle.amqp_driver.specs.Cutting.{cut_of};
 ghost use Rattle.amqp_driver.specs.Driver.{seen};
-ghost use Rattle.amqp_driver.specs.StreamTaking.{TakesStream};
+ghost use Rattle.amqp_driver.specs.StreamTaking.{TakesStream, heard};
 ghost use Rattle.amqp_driver.specs.StreamTicking.{PostsStream, TicksStream};
 ghost use Rattle.amqp1.specs.declared.operation.Operation.{Operation};
 ghost use Rattle.amqp1.specs.declared.operation.Group.TheVariants.{Bare};
@@ -149,6 +149,14 @@ impl Client {
         ensures last { self.new.last ≡ self.old.last }
     {
         self.stream.take(now, input, records)
+    }
+
+    /// Tells that bytes came at this time, though none of them are taken yet, by [`Stream::heard`].
+    pub fn heard(&mut self, now: u64)
+        ensures hears { self.new.stream ≡ record self.old.stream { clock = heard 1 now self.old.stream.clock } }
+        ensures last { self.new.last ≡ self.old.last }
+    {
+        self.stream.heard(now);
     }
 
     /// Tells the time, and does what is due, by [`Stream::tick`].

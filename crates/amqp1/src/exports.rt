@@ -3,7 +3,7 @@
 ghost use Rattle.std.specs.Prelude.{◌≡◌, ◌<◌, ◌⊎◌, Some};
 ghost use Rattle.amqp_memory.specs.Refusal.{SomeRefused};
 ghost use Rattle.amqp1.specs.declared.status.Status.TheVariants as status;
-ghost use Rattle.amqp1.specs.Place.{AnswersThere, CallsThere, CutsThere, Is, MadeThere, SendsThere, TakesThere, TicksThere};
+ghost use Rattle.amqp1.specs.Place.{AnswersThere, CallsThere, CutsThere, HearsThere, Is, MadeThere, SendsThere, TakesThere, TicksThere};
 ghost use Rattle.amqp1.specs.Ticking.{due_number, next_number, ticked_of};
 
 use crate::client::Client;
@@ -184,6 +184,23 @@ pub extern "C" fn amqp1_answer(
             let status = client.answer(record, input, flags, number);
             *place = Place::of(client);
             status.number()
+        }
+    }
+}
+
+/// Tells that bytes came at this time, though none of them are taken yet, by `Stream::heard`. `NO_ENGINE` where no client lies in the place.
+#[unsafe(no_mangle)]
+pub extern "C" fn amqp1_heard(alloc: Global, place: &mut Place, now: u64) -> i32
+    ensures empty { place.old.full ≡ 0 → Is result status.NoEngine × (place.new.full ≡ 0) }
+    ensures heard { 0 < place.old.full → (0 < place.new.full) × HearsThere place.old.slot.held now result place.new.slot.held }
+{
+    let old = std::mem::replace(place, Place::empty(alloc));
+    match old.into_client() {
+        None => Status::NoEngine.number(),
+        Some(mut client) => {
+            client.heard(now);
+            *place = Place::of(client);
+            Status::Done.number()
         }
     }
 }

@@ -1,8 +1,8 @@
-//! The library for C: an engine in a place that the caller keeps, and nine functions over it.
+//! The library for C: an engine in a place that the caller keeps, and ten functions over it.
 //!
 //! An engine is one side of a connection from its first byte to its last: an `amqp_driver::Stream`, and the last refusal of a request. It lies in a
 //! [`place::Place`], or nothing does. `amqp1_new` makes it, `amqp1_take` takes what came and writes a record of each thing, `amqp1_answer` gives
-//! what a record asks for, `amqp1_tick` tells the time, `amqp1_send` sends transfers, `amqp1_cut` cuts long ones, `amqp1_call` does one operation of those below, and `amqp1_free` lets it go.
+//! what a record asks for, `amqp1_heard` tells that bytes came which are not taken yet, `amqp1_tick` tells the time, `amqp1_send` sends transfers, `amqp1_cut` cuts long ones, `amqp1_call` does one operation of those below, and `amqp1_free` lets it go.
 //! `amqp1_version` is 256: 0.1.0. `include/amqp1.h` declares them.
 //!
 //! Nothing is kept of what came: bytes that `amqp1_take` did not take are given again, with what came since. Records say where payloads and
@@ -98,7 +98,7 @@
 //! own, none panics, each ends, the engine is freed once, and each contract holds. The walks by hand under `proofs/slot` show that a pointer to C
 //! and back owns what it owned.
 //!
-//! `specs/Place` has the contracts. `amqp1_take`, `amqp1_tick` and `amqp1_send` promise all that `Stream::take`, `tick` and `send` do: which header or
+//! `specs/Place` has the contracts. `amqp1_take`, `amqp1_heard`, `amqp1_tick` and `amqp1_send` promise all that `Stream::take`, `heard`, `tick` and `send` do: which header or
 //! SASL frame was taken, and that no frame is run before a login where one is asked for; which frames were run, each once and in order, and the
 //! record of each; what was due; which heads were handled, and what became of each. `amqp1_answer` promises what `Stream::answer` does, and `specs/Answering`
 //! the same of the operations 34 to 36; the status and the last refusal say what became of it. `specs/Making` says which stream is made. `specs/Client` says of

@@ -37,7 +37,7 @@ use Rattle.amqp_driver.specs.Stream.{StreamView, is_over, is_running, waiting}
 use Rattle.amqp_driver.specs.StreamTaking.{ClosesFor, ClosesIf, TakesUnless, TakesWhere}
 use Rattle.amqp_driver.specs.StreamTicking.{AsksUnless, BeginsUnless, DisposesUnless, DoesDue, EndsUnless, OpensUnless, PostsUnless, TicksUnless, beat_for}
 use Rattle.amqp_driver.specs.StreamLife.{Call, Calls, CallsEach}
-use Rattle.amqp_driver.specs.StreamLife.{takes, ticks, goes, logs, challenges, responds, asks, posts, disposes, begins, ends, flushes}
+use Rattle.amqp_driver.specs.StreamLife.{takes, hears, ticks, goes, logs, challenges, responds, asks, posts, disposes, begins, ends, flushes}
 use Rattle.amqp_driver.specs.Answering.{begin_entries}
 use Rattle.amqp_driver.specs.Ending.{end_entries}
 use Rattle.amqp_driver.proofs.AnswerLawLemmas.{begins_go_on, ends_go_on}
@@ -205,6 +205,7 @@ gone_legal g v w n same = by_none g v.driver w.driver (λ s o H l. subst (λ (x 
 
 call_goes_on : {R : Type 0} (g : Relays R) (v : StreamView R) (c : Call R) (w : StreamView R) → Calls g v c w → GoesOn g v.driver w.driver
 call_goes_on g v (takes now input old s n m k new) w t = takes_unless (is_over v) g v now input old s n m k w new t.1
+call_goes_on g v (hears now) w t = same_goes_on g v.driver w.driver (ap (λ (x : StreamView _). x.driver) t.1)
 call_goes_on g v (ticks now t) w x = ticks_unless (is_over v) g v now t w x.1
 call_goes_on g v (goes n) w t = gone_legal g v w n (ap (λ (x : StreamView _). x.driver.engine) t.1)
 call_goes_on g v (logs c additional result) w t = opens_unless (is_over v) g (Logs c additional) v result w t

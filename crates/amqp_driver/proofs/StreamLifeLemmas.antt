@@ -31,7 +31,7 @@ use Rattle.amqp_driver.specs.Stream.{StreamView, is_over, is_running, waiting}
 use Rattle.amqp_driver.specs.StreamTaking.{TakesUnless, TakesWhere, TakesThing}
 use Rattle.amqp_driver.specs.StreamTicking.{AsksUnless, BeginsUnless, DisposesUnless, DoesDue, EndsUnless, OpensUnless, PostsUnless, TicksUnless, beat_for}
 use Rattle.amqp_driver.specs.StreamLife.{Call, Calls, CallsEach, IsOpeningOf, AreOpeningsOf, RunsFrames, FramesComeAfter}
-use Rattle.amqp_driver.specs.StreamLife.{takes, ticks, goes, logs, challenges, responds, asks, posts, disposes, begins, ends, flushes}
+use Rattle.amqp_driver.specs.StreamLife.{takes, hears, ticks, goes, logs, challenges, responds, asks, posts, disposes, begins, ends, flushes}
 
 -- ---- what a call of the opening appends
 
@@ -161,6 +161,7 @@ ends_opening false g v n error a w x = ap (λ (y : StreamView _). y.opening) x.1
 
 call_opens : {R : Type 0} (g : Relays R) (v : StreamView R) (c : Call R) (w : StreamView R) → Calls g v c w → Opens v c w
 call_opens g v (takes now input old s n m k new) w t = takes_unless (is_over v) g v now input old s n m k w new t.1
+call_opens g v (hears now) w t = none v (hears now) w (ap (λ (x : StreamView _). x.opening) t.1)
 call_opens g v (ticks now t) w x = none v (ticks now t) w (ticks_opening (is_over v) g v now t w x.1)
 call_opens g v (goes count) w t = none v (goes count) w (ap (λ (x : StreamView _). x.opening) t.1)
 call_opens g v (logs c additional result) w t = logs_unless (is_over v) c additional v result w t
@@ -217,6 +218,7 @@ unless_open false g v now input old s n m k w new t h = where_open (is_done v.op
 runs_open : {R : Type 0} (g : Relays R) (v : StreamView R) (c : Call R) (w : StreamView R) → Calls g v c w → RunsFrames v c w → v.opening.phase ≡ phase.Open
 runs_open g v (takes now input old s n m k new) w t h =
     done_is_open v.opening.phase (unless_open (is_over v) g v now input old s n m k w new t.1 h)
+runs_open g v (hears now) w t h = absurd h
 runs_open g v (ticks now t) w x h = absurd h
 runs_open g v (goes count) w t h = absurd h
 runs_open g v (logs c additional result) w t h = absurd h

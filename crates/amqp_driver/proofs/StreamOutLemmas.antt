@@ -26,10 +26,10 @@ use Rattle.amqp_driver.specs.declared.head.TransferHead.{TransferHead}
 use Rattle.amqp_driver.specs.declared.record.Record.{Record}
 use Rattle.amqp_driver.specs.declared.status.Status.{Status}
 use Rattle.amqp_driver.specs.Stream.{StreamView, beat_bytes, empty_frame, frames_if, is_over, is_running, waiting}
-use Rattle.amqp_driver.specs.StreamTaking.{TakesUnless, TakesWhere}
+use Rattle.amqp_driver.specs.StreamTaking.{TakesUnless, TakesWhere, heard}
 use Rattle.amqp_driver.specs.StreamTicking.{AsksUnless, BeginsUnless, DisposesUnless, DoesDue, EndsUnless, OpensUnless, PostsUnless, TicksUnless, beat_for}
 use Rattle.amqp_driver.specs.StreamLife.{Call, Calls, CallsEach, IsOpeningOf, AreOpeningsOf, Part, an_empty_frame, handed_out, part_bytes, Adds, AddEach, SendsInOrder, gone, gone_by, all_out}
-use Rattle.amqp_driver.specs.StreamLife.{takes, ticks, goes, logs, challenges, responds, asks, posts, disposes, begins, ends, flushes}
+use Rattle.amqp_driver.specs.StreamLife.{takes, hears, ticks, goes, logs, challenges, responds, asks, posts, disposes, begins, ends, flushes}
 use Rattle.amqp_driver.proofs.StreamLifeLemmas.{called, done_is_open, took_some}
 use Rattle.amqp_driver.proofs.StreamOrderLemmas.{More, drop_both, drop_frames, no_more, more_still, sends_more, requests_more, closes_more, closes_if_more, takes_more, posts_more, disposes_more, begins_more, ends_more}
 
@@ -105,6 +105,14 @@ unless_out : {R : Type 0} (over : Bool) (g : Relays R) (v : StreamView R) (now :
     (w : StreamView R) (new : List Record) → v.beat ≤ 8 → TakesUnless over g v now input old s n m k w new → Out v (takes now input old s n m k new) w
 unless_out true g v now input old s n m k w new most t = nothing v (takes now input old s n m k new) w most tt t.4 (λ more e. e)
 unless_out false g v now input old s n m k w new most t = takes_out (is_done v.opening.phase) g v now input old s n m k w new most refl t
+
+-- ---- bytes came
+
+hears_out : {R : Type 0} (v : StreamView R) (now : ℕ) (w : StreamView R) → v.beat ≤ 8 → w ≡ record v { clock = heard 1 now v.clock } → Out v (hears now) w
+hears_out v now w most t =
+    let m = no_more v.driver w.driver (ap (λ (x : StreamView _). x.driver) t) in
+    by_driver v (hears now) w most tt (ap (λ (x : StreamView _). x.opening) t) (ap (λ (x : StreamView _). x.first) t)
+    (ap (λ (x : StreamView _). x.beat) t) m m.1
 
 -- ---- the calls of SASL
 
@@ -393,6 +401,9 @@ each_line g v (goes n ∷ cs) w chain most =
 each_line g v (takes now input old s n m k new ∷ cs) w chain most =
     let o = unless_out (is_over v) g v now input old s n m k chain.0 new most chain.1.1 in
     behind g v (takes now input old s n m k new) cs w chain refl o (each_line g chain.0 cs w chain.2 o.least)
+each_line g v (hears now ∷ cs) w chain most =
+    let o = hears_out v now chain.0 most chain.1.1 in
+    behind g v (hears now) cs w chain refl o (each_line g chain.0 cs w chain.2 o.least)
 each_line g v (ticks now t ∷ cs) w chain most =
     let o = ticks_out (is_over v) g v now t chain.0 most chain.1.1 in
     behind g v (ticks now t) cs w chain refl o (each_line g chain.0 cs w chain.2 o.least)

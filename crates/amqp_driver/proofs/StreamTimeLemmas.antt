@@ -31,7 +31,7 @@ use Rattle.amqp_driver.specs.Stream.{StreamView, is_closed, is_over, is_running,
 use Rattle.amqp_driver.specs.StreamTaking.{TakesUnless, TakesWhere, heard}
 use Rattle.amqp_driver.specs.StreamTicking.{AsksUnless, BeginsUnless, DisposesUnless, DoesDue, EndsUnless, OpensUnless, PostsUnless, TellsOpened, TicksUnless, beat_for, time_out_of}
 use Rattle.amqp_driver.specs.StreamLife.{Call, Calls, CallsEach, IsTimeOf, AreTimesOf, TimeIsTold, IsQuiet, StaysOver}
-use Rattle.amqp_driver.specs.StreamLife.{takes, ticks, goes, logs, challenges, responds, asks, posts, disposes, begins, ends, flushes}
+use Rattle.amqp_driver.specs.StreamLife.{takes, hears, ticks, goes, logs, challenges, responds, asks, posts, disposes, begins, ends, flushes}
 
 -- ---- what a call tells the clock
 
@@ -120,6 +120,7 @@ ends_clock false g v n error a w x = ap (λ (y : StreamView _). y.clock) x.1
 
 call_times : {R : Type 0} (g : Relays R) (v : StreamView R) (c : Call R) (w : StreamView R) → Calls g v c w → Times v c w
 call_times g v (takes now input old s n m k new) w t = unless_times (is_over v) g v now input old s n m k w new t.0 t.1
+call_times g v (hears now) w t = (Receives now ∷ [], refl, (w.clock, (t.0, ap (λ (x : StreamView _). x.clock) t.1), refl))
 call_times g v (ticks now t) w x = ticks_times (is_over v) g v now t w x.0 x.1
 call_times g v (goes n) w t = goes_times n v w (ap (λ (x : StreamView _). x.clock) t.1)
 call_times g v (logs c additional result) w t = ([], tt, opens_clock (is_over v) (Logs c additional) v result w t)
@@ -169,6 +170,9 @@ sent_over : {R : Type 0} (n : ℕ) (v : StreamView R) → is_over (having_sent n
 sent_over zero v = refl
 sent_over (suc n) v = refl
 
+heard_over : {R : Type 0} (now : ℕ) (v : StreamView R) → is_over (record v { clock = heard 1 now v.clock }) ≡ is_over v
+heard_over now v = refl
+
 same_over : {R : Type 0} (v w : StreamView R) → w ≡ v → is_over v ≡ true → is_over w ≡ true
 same_over v w same over = ap (λ (x : StreamView _). is_over x) same ∙ over
 
@@ -192,6 +196,7 @@ call_over : {R : Type 0} (g : Relays R) (v : StreamView R) (c : Call R) (w : Str
     → (is_over w ≡ true) × IsQuiet c
 call_over g v (takes now input old s n m k new) w over t =
     takes_quiet g v now input old s n m k w new over (subst (λ (b : Bool). TakesUnless b g v now input old s n m k w new) over t.1)
+call_over g v (hears now) w over t = (ap (λ (x : StreamView _). is_over x) t.1 ∙ heard_over now v ∙ over, tt)
 call_over g v (ticks now t) w over x =
     let u : TicksUnless true g v now t w = subst (λ (b : Bool). TicksUnless b g v now t w) over x.1 in (same_over v w u.1 over, u.0)
 call_over g v (goes n) w over t = (ap (λ (x : StreamView _). is_over x) t.1 ∙ sent_over n v ∙ over, tt)

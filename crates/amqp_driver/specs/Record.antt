@@ -1,7 +1,8 @@
 -- Part: other calls.
 -- What a frame says, as a record of fixed size: the table of them.
-use Rattle.std.specs.Prelude.{ℕ, ◌+◌, ◌-◌, Bool, true, false, length, cond, is_some, Option, Some, None}
+use Rattle.std.specs.Prelude.{ℕ, ◌+◌, ◌-◌, ◌/◌, ◌%◌, ◌^◌, Bool, true, false, length, cond, is_some, Option, Some, None}
 use Rattle.amqp_types.specs.Attach.{AttachModel}
+use Rattle.amqp_types.specs.Definitions.{receiver_code, sender_code}
 use Rattle.amqp_types.specs.Detach.{DetachModel}
 use Rattle.amqp_types.specs.Disposition.{DispositionModel}
 use Rattle.amqp_types.specs.Error.{ErrorModel}
@@ -73,12 +74,22 @@ bare_record at size = record empty_record { at = at + 8; size = size - 8; payloa
 
 -- ---- the table: by the kind of the performative, what it says
 
+-- which termini the peer's end of the link has: a source, a target, both, or none (section 2.6.3)
+abbrev pub termini : AttachModel → ℕ
+termini p = bit (is_some p.source) 1 + bit (is_some p.target) 2
+
+-- the max-message-size stands in two halves, and 0 says that there is no limit (section 2.7.3)
 abbrev pub attach_record : Record → AttachModel → Record
 attach_record bare p = record bare {
   kind = 3;
+  outcome = termini p;
   flags = bit (is_receiver p.role) 16 + bit (is_some p.initial_delivery_count) 2048 + 4096;
   input = p.handle;
+  first = number_or 0 p.max_message_size % 2 ^ 32;
+  last = number_or 0 p.max_message_size / 2 ^ 32;
   count = number_or 0 p.initial_delivery_count;
+  credit = sender_code p.snd_settle_mode;
+  available = receiver_code p.rcv_settle_mode;
 }
 
 abbrev pub flow_flags : FlowModel → ℕ

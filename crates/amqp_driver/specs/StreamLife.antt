@@ -37,7 +37,7 @@ use Rattle.amqp_driver.specs.declared.status.Status.{Status}
 use Rattle.amqp_driver.specs.declared.status.Status.TheVariants as status
 use Rattle.amqp_driver.specs.Driver.{SendsOnly}
 use Rattle.amqp_driver.specs.Stream.{StreamView, Begun, empty_frame, having_sent, is_over, waiting}
-use Rattle.amqp_driver.specs.StreamTaking.{TakesStream}
+use Rattle.amqp_driver.specs.StreamTaking.{TakesStream, heard}
 use Rattle.amqp_driver.specs.StreamTicking.{AsksStream, BeginsStream, ChallengesStream, DisposesStream, EndsStream, LogsStream, PostsStream, RespondsStream, TicksStream, no_tick}
 
 -- ---- chains of calls
@@ -45,6 +45,7 @@ use Rattle.amqp_driver.specs.StreamTicking.{AsksStream, BeginsStream, Challenges
 -- a call with its arguments, and what it answered
 pub data Call (R : Type 0) : Type 0 where
   takes : ℕ → List ℕ → List Record → Status → ℕ → ℕ → ℕ → List Record → Call R
+  hears : ℕ → Call R
   ticks : ℕ → Tick → Call R
   goes : ℕ → Call R
   logs : SaslCode → Option (List ℕ) → Result (Unit {0}) OpeningError → Call R
@@ -60,6 +61,7 @@ pub data Call (R : Type 0) : Type 0 where
 -- the call as its contract says it
 abbrev pub Calls : {R : Type 0} → Relays R → StreamView R → Call R → StreamView R → Type 0
 Calls g v (takes now input old s taken written wanted new) w = (now < 2 ^ 64) × TakesStream g v now input old s taken written wanted w new
+Calls g v (hears now) w = (now < 2 ^ 64) × (w ≡ record v { clock = heard 1 now v.clock })
 Calls g v (ticks now t) w = (now < 2 ^ 64) × TicksStream g v now t w
 Calls g v (goes count) w = (count ≤ length (waiting v)) × (w ≡ having_sent count v)
 Calls g v (logs c additional result) w = LogsStream c additional v result w
@@ -115,6 +117,8 @@ FramesComeAfter g = (side : Side) (logins : List Login) (hostname : Option (List
 abbrev pub IsTimeOf : {R : Type 0} → Call R → List IdleCall → Type 0
 IsTimeOf (takes now input old s taken written wanted new) [] = taken ≡ 0
 IsTimeOf (takes now input old s taken written wanted new) (Receives t ∷ []) = (t ≡ now) × (0 < taken)
+IsTimeOf (hears now) [] = ⊥
+IsTimeOf (hears now) (Receives t ∷ []) = t ≡ now
 IsTimeOf (ticks now answer) [] = answer ≡ no_tick
 IsTimeOf (ticks now answer) (Ticks t told ∷ []) = (t ≡ now) × (told ≡ answer)
 IsTimeOf (ticks now answer) (Opens u ours peers was ∷ Ticks t told ∷ []) = (u ≡ now) × (t ≡ now) × (told ≡ answer)
@@ -138,6 +142,7 @@ TimeIsTold g = (opening : OpeningView) (start : ℕ) (limit : Option ℕ) (hash 
 -- nothing is taken, nothing is asked for, and nothing is due; what waits may go out
 abbrev pub IsQuiet : {R : Type 0} → Call R → Type 0
 IsQuiet (takes now input old s taken written wanted new) = (s ≡ status.Over) × (taken ≡ 0) × (written ≡ 0) × (new ≡ old)
+IsQuiet (hears now) = Unit {0}
 IsQuiet (ticks now t) = t ≡ no_tick
 IsQuiet (goes count) = Unit {0}
 IsQuiet (logs c additional result) = result ≡ Err no.WrongTime

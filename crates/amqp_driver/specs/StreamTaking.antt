@@ -39,7 +39,7 @@ abbrev pub Idles : {R : Type 0} → Status → StreamView R → List Record → 
 Idles why v old s taken written wanted w new =
     (s ≡ why) × (taken ≡ 0) × (written ≡ 0) × (wanted ≡ 0) × (w ≡ v) × (new ≡ old)
 
--- ---- bytes came, of whole frames, or none did
+-- ---- bytes came, or none did: those that are taken, or some that wait to be
 
 abbrev pub heard : ℕ → ℕ → IdleView → IdleView
 heard zero now clock = clock

@@ -20,7 +20,8 @@ pub struct Record {
     /// What it is: one of [`kind`](crate::kind).
     pub kind: u8,
     /// The state of deliveries (part 3, section 3.4): 0 none, 1 accepted, 2 rejected, 3 released, 4 modified, 5 received, 6 any other one. It
-    /// is told by the number of its descriptor; a state that is described by a name is another one.
+    /// is told by the number of its descriptor; a state that is described by a name is another one. Of an attach the termini that it has: 0 none, 1 a
+    /// source, 2 a target, 3 both. A peer that answers with no source, or no target, of its own refuses the link (section 2.6.3).
     pub outcome: u8,
     /// Those of [`flag`](crate::flag).
     pub flags: u16,
@@ -30,17 +31,19 @@ pub struct Record {
     pub output: u32,
     /// The peer's handle of the link.
     pub input: u32,
-    /// The number of the delivery; of a disposition the first one.
+    /// The number of the delivery; of a disposition the first one. Of an attach the low 32 bits of the largest message that the peer takes, in
+    /// bytes. Where these and the high ones are both 0, it sets no limit (section 2.7.3).
     pub first: u32,
-    /// The number of the delivery; of a disposition the last one.
+    /// The number of the delivery; of a disposition the last one. Of an attach the high 32 bits of the largest message that the peer takes.
     pub last: u32,
     /// The format of the message.
     pub format: u32,
     /// The delivery count of a flow, the initial one of an attach.
     pub count: u32,
-    /// The credit of a flow.
+    /// The credit of a flow. Of an attach how the sending end settles: 0 unsettled, 1 settled, 2 mixed (section 2.8.2), and 2 where it does not say.
     pub credit: u32,
-    /// How many messages the sender of a flow has ready.
+    /// How many messages the sender of a flow has ready. Of an attach how the receiving end settles: 0 first, 1 second (section 2.8.3), and 0 where it
+    /// does not say.
     pub available: u32,
     /// Why the frame was refused, by its number: [`refusal_number`](crate::refusal_number) has the list. 0 where it was not. An End or a Close
     /// that was taken has 0, also where it names an error.

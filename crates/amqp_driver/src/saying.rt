@@ -1,17 +1,21 @@
 //! What a frame says, as a record: the table, by the kind of its performative.
 
 ghost use Rattle.std.specs.Prelude.{◌≡◌, ◌≤◌, ◌<◌, ◌+◌, ◌^◌, length, option_map};
+ghost use Rattle.amqp_types.specs.Definitions.{receiver_code, sender_code};
 ghost use Rattle.amqp_frames.specs.Frame.{payload_of};
 ghost use Rattle.amqp_driver.specs.Record.{bare_record, bit, body_record, frame_record, number_or};
 ghost use Rattle.amqp_driver.specs.Record.{attach_record, detach_record, disposition_record, error_flag, flow_record, none, transfer_record};
-ghost use Rattle.amqp_driver.specs.Record.{disposition_flags, flow_flags, transfer_flags};
+ghost use Rattle.amqp_driver.specs.Record.{disposition_flags, flow_flags, termini, transfer_flags};
 
 use crate::outcome::outcome_of;
 use crate::record::{NONE, Record, bare};
 use crate::tag::{tag_bytes, tag_size};
 use crate::{flag, kind};
 use amqp_frames::{Frame, FrameBody};
-use amqp_types::{Attach, Detach, Disposition, Error, Flow, Handle, Role, Transfer};
+use amqp_types::{
+    Attach, Detach, Disposition, Error, Flow, Handle, ReceiverSettleMode, Role, SenderSettleMode,
+    Transfer,
+};
 
 /// What a Transfer on this channel says, in a frame that begins at this place and has so many bytes; its payload is the last ones of them. The
 /// session and this side's handle are left out.
@@ -98,14 +102,46 @@ fn of_kind(bare: Record, kind: u8) -> Record
 fn attach(bare: Record, p: &Attach) -> Record
     ensures { result ≡ attach_record bare p.now }
 {
+    let limit = p.max_message_size.unwrap_or(0);
     Record {
         kind: kind::ATTACHED,
+        outcome: termini(p),
         flags: bit(p.role == Role::Receiver, flag::RECEIVER)
             + bit(p.initial_delivery_count.is_some(), flag::COUNTED)
             + flag::LINKED,
         input: p.handle.0,
+        first: (limit % 0x1_0000_0000) as u32,
+        last: (limit / 0x1_0000_0000) as u32,
         count: p.initial_delivery_count.unwrap_or(0),
+        credit: sender_code(p.snd_settle_mode),
+        available: receiver_code(p.rcv_settle_mode),
         ..bare
+    }
+}
+
+/// Which termini an Attach has.
+fn termini(p: &Attach) -> u8
+    ensures { result ≡ termini p.now }
+{
+    (bit(p.source.is_some(), 1) + bit(p.target.is_some(), 2)) as u8
+}
+
+fn sender_code(mode: SenderSettleMode) -> u32
+    ensures { result ≡ sender_code mode }
+{
+    match mode {
+        SenderSettleMode::Unsettled => 0,
+        SenderSettleMode::Settled => 1,
+        SenderSettleMode::Mixed => 2,
+    }
+}
+
+fn receiver_code(mode: ReceiverSettleMode) -> u32
+    ensures { result ≡ receiver_code mode }
+{
+    match mode {
+        ReceiverSettleMode::First => 0,
+        ReceiverSettleMode::Second => 1,
     }
 }
 

@@ -54,6 +54,11 @@ fn links(record: &Record) -> (u32, u32, u32, u16) {
     (record.session, record.output, record.input, record.channel)
 }
 
+/// Of an Attach the termini, and how sender and receiver settle.
+fn terms(record: &Record) -> (u8, u32, u32) {
+    (record.outcome, record.credit, record.available)
+}
+
 #[test]
 fn each_says_what_its_frame_says(rt: HostRuntime) -> Result<(), Fail> {
     let found = records(rt.alloc(), INPUT.len())?;
@@ -95,9 +100,11 @@ fn an_attach(rt: HostRuntime) -> Result<(), Fail> {
         sender.flags,
         flag::RECEIVER + flag::COUNTED + flag::LINKED,
     );
+    same(&rt, terms(&sender), (3, 0, 0));
     let receiver = record_at(&found, 3);
     same(&rt, links(&receiver), (6, 0, 1, 0));
     same(&rt, receiver.flags, flag::COUNTED + flag::LINKED);
+    same(&rt, terms(&receiver), (3, 2, 0));
     Ok(())
 }
 

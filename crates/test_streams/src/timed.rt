@@ -99,6 +99,29 @@ fn a_silent_peer(rt: HostRuntime) -> Result<(), Fail> {
 }
 
 #[test]
+fn bytes_that_wait_are_heard(rt: HostRuntime) -> Result<(), Fail> {
+    let mut stream = opened(rt.alloc())?;
+    same(&rt, stream.tick(10), tick(Due::Nothing, Some(60)));
+    same(&rt, take(&mut stream, 200, &EMPTY[..4]).0.taken, 0);
+    stream.heard(200);
+    same(&rt, stream.tick(210), tick(Due::Beat, Some(260)));
+    same(&rt, stream.tick(400), tick(Due::PeerSilent, None));
+    holds(&rt, stream.is_over());
+    drop(stream);
+    Ok(())
+}
+
+#[test]
+fn bytes_that_wait_unheard(rt: HostRuntime) -> Result<(), Fail> {
+    let mut stream = opened(rt.alloc())?;
+    same(&rt, stream.tick(10), tick(Due::Nothing, Some(60)));
+    same(&rt, take(&mut stream, 200, &EMPTY[..4]).0.taken, 0);
+    same(&rt, stream.tick(210), tick(Due::PeerSilent, None));
+    drop(stream);
+    Ok(())
+}
+
+#[test]
 fn a_late_opening(rt: HostRuntime) -> Result<(), Fail> {
     let mut stream = stream(rt.alloc(), Opening::plain(rt.alloc()))?;
     same(&rt, stream.tick(999), tick(Due::Nothing, Some(1000)));

@@ -124,6 +124,17 @@ impl<R: LinkRelay> Stream<R> {
         self.take_thing(now, seen(input), records)
     }
 
+    /// Bytes came at the time `now`, though none of them are taken yet: the peer is not silent (AMQP 1.0 part 2, section 2.4.5).
+    ///
+    /// A program that reads a socket faster than it takes calls it as it reads, so that a peer whose bytes wait in the program is not called silent.
+    /// [`Stream::take`] says the same of the bytes that it takes. It tells the time, and nothing else changes: of a stream that is over, or not yet
+    /// open, no more follows from it.
+    pub fn heard(&mut self, now: u64)
+        ensures { self.new ≡ record self.old { clock = heard 1 now self.old.clock } }
+    {
+        self.hear(1, now);
+    }
+
     /// Takes one header or one SASL frame.
     fn take_thing(&mut self, now: u64, input: &[u8], records: &mut [Record]) -> Taken
         requires { records.old ≢ [] }
@@ -168,7 +179,7 @@ impl<R: LinkRelay> Stream<R> {
         taken
     }
 
-    /// So many bytes were taken.
+    /// So many bytes came.
     fn hear(&mut self, count: usize, now: u64)
         ensures { self.new ≡ record self.old { clock = heard count now self.old.clock } }
     {
