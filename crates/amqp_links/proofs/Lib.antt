@@ -2,5 +2,7 @@ mod SendingLemmas
 mod ReceivingLemmas
 mod ReceivingHistoryLemmas
 mod SessionLemmas
+pub mod PreparedLemmas
+pub mod HalvesLemmas
 mod SessionLawLemmas
 mod UnsettledLawLemmas

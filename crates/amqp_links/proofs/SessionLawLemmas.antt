@@ -42,7 +42,7 @@ use Rattle.amqp_unsettled.specs.declared.entry.Entry.{Entry}
 use Rattle.amqp_links.proofs.ReceivingLemmas.{ok≢err}
 use Rattle.amqp_links.specs.SessionHistory.{LinksCall, LinksStep, Owner, nobody, a_sender, a_receiver, IsOwn, going_on, sender_calls, receiver_calls, as_sender, as_grant}
 use Rattle.amqp_links.specs.SessionHistory.{OfLinks, EachIsAlone, owner_after, owner_by, if_at}
-use Rattle.amqp_links.specs.SessionHistory.{AddsSender, AddsReceiver, Attaches, Detaches, Ends, Flows, Answers, Grants, Drains, Renews, Sends, Takes, Leaves, Removes, SettlesOfSent, SettlesOfReceived, LeavesOfSent, LeavesOfReceived, AsksEnd, AsksSent, AsksReceived}
+use Rattle.amqp_links.specs.SessionHistory.{MakesRoom, AddsSender, AddsReceiver, Attaches, Detaches, Ends, Flows, Answers, Grants, Drains, Renews, Sends, Takes, Leaves, Removes, SettlesOfSent, SettlesOfReceived, LeavesOfSent, LeavesOfReceived, AsksEnd, AsksSent, AsksReceived}
 
 abbrev or_else : {X : Type 0} → X → Option X → X
 or_else x None = x
@@ -293,6 +293,7 @@ removes_at v w h k o (Err rem.Unsettled) (Some e) own s = same_ends v w h o own 
 
 -- each call keeps that every end is alone
 pub alone : (v w : LinksView) (c : LinksCall) (h : ℕ) (o : Owner) → IsOwn o (end_at v.ends h) → LinksStep v c w → IsOwn (owner_after h c o) (end_at w.ends h)
+alone v w (MakesRoom k) h o own s = subst (λ x. IsOwn o x) (sym (s.0 h)) own
 alone v w (AddsSender k i (Ok done)) h o own s = placed v w h k (Some (Sending (new_sending i))) (a_sender i []) o s.1.1.0 (λ q. (s.0, refl)) own (nat_eq k h) refl
 alone v w (AddsSender k i (Err add.InUse)) h o own s = same_ends v w h o own (ap (λ x. x.ends) s.1.1)
 alone v w (AddsSender k i (Err add.OutOfMemory)) h o own s = same_ends v w h o own (ap (λ x. x.ends) s.1.1)

@@ -46,7 +46,7 @@ use Rattle.amqp_links.specs.SendingParts.{SendsAt, settles}
 use Rattle.amqp_links.specs.TakingParts.{TakesAt}
 use Rattle.amqp_links.specs.Settling.{LeavesNext, LeavesSent, LeavesReceived}
 use Rattle.amqp_links.specs.SessionHistory.{LinksCall, LinksStep, IsNumbered, OfLinks, Owner, nobody, a_sender, a_receiver, IsOwn, owner_after, owner_by}
-use Rattle.amqp_links.specs.SessionHistory.{AddsSender, AddsReceiver, Attaches, Detaches, Ends, Flows, Answers, Grants, Drains, Renews, Sends, Takes}
+use Rattle.amqp_links.specs.SessionHistory.{MakesRoom, AddsSender, AddsReceiver, Attaches, Detaches, Ends, Flows, Answers, Grants, Drains, Renews, Sends, Takes}
 use Rattle.amqp_links.specs.SessionHistory.{Leaves, Removes, SettlesOfSent, SettlesOfReceived, LeavesOfSent, LeavesOfReceived, AsksEnd, AsksSent, AsksReceived}
 use Rattle.amqp_links.specs.UnsettledHistory.{handle_of, noted, left_by, sent_calls, received_calls, table_calls, AreTables}
 use Rattle.amqp_links.proofs.SendingLemmas.{is_busy, is_busy_by}
@@ -224,6 +224,7 @@ leaves_tables v w k given (Some (Receiving x)) (a_receiver r l K) own s =
 -- ---- each call, and all of them
 
 tables : (v w : LinksView) (c : LinksCall) (o : Owner) → IsOwn o (end_at v.ends (handle_of c)) → LinksStep v c w → Tables v c o w
+tables v w (MakesRoom k) o own s = (ap (λ x. x.sent) s.1, ap (λ x. x.received) s.1)
 tables v w (AddsSender k i answer) o own s = adds_kept v w k (Sending (new_sending i)) answer s.1
 tables v w (AddsReceiver k r l answer) o own s = adds_kept v w k (Receiving (new_receiving r l)) answer s
 tables v w (Attaches k a answer) o own s = attaches_kept v w k a answer (end_at v.ends k) s.1

@@ -9,6 +9,8 @@ pub mod Attaching
 pub mod Granting
 pub mod Noting
 pub mod SendingParts
+pub mod Preparing
+pub mod PreparingFlow
 pub mod TakingParts
 pub mod Settling
 pub mod SessionHistory

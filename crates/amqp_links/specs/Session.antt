@@ -1,6 +1,6 @@
 -- Part: other calls.
 -- The links of one session, and what each call makes of them (AMQP 1.0 part 2, sections 2.6 and 2.7).
-use Rattle.std.specs.Prelude.{ℕ, ◌≡◌, ◌≢◌, List, [], Option, Some, None, Result, Ok, Err}
+use Rattle.std.specs.Prelude.{ℕ, ◌≡◌, ◌≢◌, ◌<◌, ◌≤◌, length, List, [], Option, Some, None, Result, Ok, Err}
 use Rattle.amqp_memory.specs.Refusal.{SomeRefused}
 use Rattle.amqp_unsettled.specs.declared.entry.Entry.{Entry}
 use Rattle.amqp_unsettled.specs.Table.{count_of}
@@ -34,11 +34,19 @@ life_of (Receiving link) = link.life
 
 -- ---- a link begins
 
--- An end gets a handle that has none. Where it has one, or memory is refused, nothing changes.
+-- every handle has the end that it had
+abbrev pub HasSameEnds : LinksView → LinksView → Type 0
+HasSameEnds v w = ((k : ℕ) → end_at w.ends k ≡ end_at v.ends k) × (w ≡ record v { ends = w.ends })
+
+-- and there is room for an end of this one
+abbrev pub HasRoom : LinksView → ℕ → LinksView → Type 0
+HasRoom v h w = HasSameEnds v w × (h < length w.ends)
+
+-- An end gets a handle that has none. Where it has one, or memory is refused, nothing changes; and none is asked for where there is room.
 abbrev pub AddsEnd : LinksView → ℕ → End → Result (Unit {0}) AddError → LinksView → Type 0
 AddsEnd v h e (Ok done) w = (end_at v.ends h ≡ None) × PutsEnd v h e w
 AddsEnd v h e (Err InUse) w = (end_at v.ends h ≢ None) × (w ≡ v)
-AddsEnd v h e (Err OutOfMemory) w = (end_at v.ends h ≡ None) × (w ≡ v) × SomeRefused
+AddsEnd v h e (Err OutOfMemory) w = (end_at v.ends h ≡ None) × (w ≡ v) × SomeRefused × (length v.ends ≤ h)
 
 -- ---- a link ends
 

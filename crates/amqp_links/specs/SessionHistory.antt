@@ -31,7 +31,7 @@ use Rattle.amqp_links.specs.SendingHistory.{SendingCall, SendingLeadsTo}
 use Rattle.amqp_links.specs.SendingHistory as sending
 use Rattle.amqp_links.specs.ReceivingHistory.{ReceivingCall, ReceivingLeadsTo}
 use Rattle.amqp_links.specs.ReceivingHistory as receiving
-use Rattle.amqp_links.specs.Session.{LinksView, no_links, AddsEnd, RemovesEnd}
+use Rattle.amqp_links.specs.Session.{LinksView, no_links, AddsEnd, HasSameEnds, RemovesEnd}
 use Rattle.amqp_links.specs.Attaching.{AttachesAt, DetachesAt, EndsAt}
 use Rattle.amqp_links.specs.Granting.{FlowsAt, AnswersAt, GrantsAt, DrainsAt, RenewsAt}
 use Rattle.amqp_links.specs.SendingParts.{SendsAt}
@@ -40,6 +40,7 @@ use Rattle.amqp_links.specs.Settling.{SettlesSent, SettlesReceived, LeavesNext, 
 
 -- One call, and its answer; those of a link have its handle first. The last three are questions.
 pub data LinksCall : Type 0 where
+  MakesRoom : ℕ → LinksCall
   AddsSender : ℕ → ℕ → Result (Unit {0}) AddError → LinksCall
   AddsReceiver : ℕ → Option Renewal → Option ℕ → Result (Unit {0}) AddError → LinksCall
   Attaches : ℕ → PeerAttach → Option Life → LinksCall
@@ -69,6 +70,7 @@ IsNumbered (Err error) = Unit {0}
 
 -- the call as its contract says it
 abbrev pub LinksStep : LinksView → LinksCall → LinksView → Type 0
+LinksStep v (MakesRoom h) w = HasSameEnds v w
 LinksStep v (AddsSender h initial answer) w = (initial < 2 ^ 32) × AddsEnd v h (Sending (new_sending initial)) answer w
 LinksStep v (AddsReceiver h renewal limit answer) w = AddsEnd v h (Receiving (new_receiving renewal limit)) answer w
 LinksStep v (Attaches h a answer) w = (a.initial_delivery_count < 2 ^ 32) × AttachesAt (end_at v.ends h) v h a answer w

@@ -1,5 +1,9 @@
 //! One end of a link: a sender's or a receiver's.
 
+ghost use Rattle.std.specs.Prelude.{◌≡◌};
+ghost use Rattle.amqp_links.specs.Session.{life_of};
+
+use crate::life::Life;
 use crate::receiving::ReceivingLink;
 use crate::sending::SendingLink;
 
@@ -10,4 +14,16 @@ pub enum End {
     Sending(SendingLink),
     /// This side receives.
     Receiving(ReceivingLink),
+}
+
+impl End {
+    /// Where it stands.
+    pub fn life(self) -> Life
+        ensures { result ≡ life_of self }
+    {
+        match self {
+            End::Sending(link) => link.life(),
+            End::Receiving(link) => link.life(),
+        }
+    }
 }

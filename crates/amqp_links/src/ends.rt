@@ -1,6 +1,6 @@
 //! The ends of a session's links, by their handles.
 
-ghost use Rattle.std.specs.Prelude.{◌≡◌, ◌≢◌, ◌≤◌, ℕ, max, [], None, Some, OnOk, OnErr, vec_len, vec_capacity};
+ghost use Rattle.std.specs.Prelude.{◌≡◌, ◌≢◌, ◌≤◌, ◌<◌, ℕ, max, [], None, Some, OnOk, OnErr, length, vec_len, vec_capacity};
 ghost use Rattle.amqp_memory.specs.Refusal.{SomeRefused};
 ghost use Rattle.amqp_links.specs.Ends.{end_at, Puts};
 
@@ -53,21 +53,33 @@ impl Ends {
         self.places[handle as usize] = end;
     }
 
-    /// Puts an end where none is. Nothing changes where memory is refused.
-    pub(crate) fn insert(&mut self, handle: u32, end: End) -> Result<(), AllocError>
-        ensures ok { OnOk result (Puts self.old handle (Some end) self.new) }
+    /// Makes a place for this handle, where there is none. Nothing changes where memory is refused.
+    pub(crate) fn make_room(&mut self, handle: u32) -> Result<(), AllocError>
+        ensures same { (k : ℕ) → end_at self.new k ≡ end_at self.old k }
+        ensures ok { OnOk result (handle < length self.new) }
         ensures err { OnErr result (self.new ≡ self.old) }
+        ensures lacking { OnErr result (length self.old ≤ handle) }
         ensures refused { OnErr result SomeRefused }
     {
         let at = handle as usize;
         if at < self.places.len() {
-            self.places[at] = Some(end);
             return Ok(());
         }
         let lacking = at + 1 - self.places.len();
         more_in_vector(&mut self.places, lacking)?;
-        fill_up(&mut self.places, at);
-        self.places.push_reserved(Some(end));
+        fill_up(&mut self.places, at + 1);
+        Ok(())
+    }
+
+    /// Puts an end where none is. Nothing changes where memory is refused, and none is asked for where there is a place.
+    pub(crate) fn insert(&mut self, handle: u32, end: End) -> Result<(), AllocError>
+        ensures ok { OnOk result (Puts self.old handle (Some end) self.new) }
+        ensures err { OnErr result (self.new ≡ self.old) }
+        ensures lacking { OnErr result (length self.old ≤ handle) }
+        ensures refused { OnErr result SomeRefused }
+    {
+        self.make_room(handle)?;
+        self.places[handle as usize] = Some(end);
         Ok(())
     }
 }

@@ -6,6 +6,8 @@ ghost use Rattle.amqp_links.specs.ReceivingHistory as receiving;
 ghost use Rattle.amqp_links.specs.ReceivingHistory.{OfReceivings};
 ghost use Rattle.amqp_links.specs.SessionHistory.{OfLinks, EachIsAlone};
 ghost use Rattle.amqp_links.specs.UnsettledHistory.{AreTables};
+ghost use Rattle.amqp_links.specs.Preparing.{CancelRestores, HalvesSend};
+ghost use Rattle.amqp_links.specs.PreparingFlow.{HalvesSay};
 
 /// A sending end stands where its Attaches and Detaches say. It sends nothing but while both sides have attached and neither has detached. Its credit is
 /// that of a `SenderCredit` to which the same flows came and which began the same deliveries: so `law_of_senders` of `amqp_credit` holds of it, and no
@@ -40,4 +42,13 @@ pub fn law_of_session_links()
 /// 2.6.12 and 2.6.13).
 pub fn law_of_settlement()
     ensures { OfLinks AreTables }
+{}
+
+/// Two halves of a call are the whole one: a part of a delivery, or a flow, that is prepared and then finished does what `send`, or the call of its wish, does.
+/// And a part that is prepared and then not sent leaves its session's links as they were: its delivery is not unsettled, its link has the credit that it had, and
+/// no other delivery is touched.
+pub fn law_of_halves()
+    ensures send { HalvesSend }
+    ensures say { HalvesSay }
+    ensures cancel { CancelRestores }
 {}

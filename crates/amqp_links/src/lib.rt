@@ -24,6 +24,6 @@ pub use life::{Life, LinkEnd};
 pub use receiving::{LinkFault, ReceivingLink, TransferError};
 pub use sending::{CreditFlow, SendError, SenderFlow, SendingLink};
 pub use session::{
-    AddError, LinkFlow, PeerAttach, ReceivedPart, RemoveError, SendPartError, SentPart,
-    SessionLinks, TakePartError,
+    AddError, FlowWish, LinkFlow, PeerAttach, PreparedFlow, PreparedPart, ReceivedPart,
+    RemoveError, SendPartError, SentPart, SessionLinks, TakePartError,
 };

@@ -42,10 +42,10 @@ pub enum SendError {
     NotAttached,
     /// The delivery would have more bytes than the receiver's `max-message-size` allows.
     TooLarge,
-    /// The credit is 0: no delivery may be begun.
-    NoCredit,
     /// No delivery is under way that could be aborted.
     NoneUnderWay,
+    /// The credit is 0: no delivery may be begun.
+    NoCredit,
 }
 
 /// The sending end of one link (AMQP 1.0 part 2, sections 2.6.7 and 2.6.14): whether it is attached, how many deliveries it may begin, and the

@@ -1,11 +1,12 @@
 //! The links of one session: their ends, and what is unsettled on them.
 
-ghost use Rattle.std.specs.Prelude.{◌≡◌, ◌≢◌, [], None};
+ghost use Rattle.std.specs.Prelude.{◌≡◌, ◌≢◌, [], None, OnOk, OnErr};
+ghost use Rattle.amqp_memory.specs.Refusal.{SomeRefused};
 ghost use Rattle.amqp_links.specs.declared.end.End.TheVariants as end;
 ghost use Rattle.amqp_links.specs.Ends.{end_at};
 ghost use Rattle.amqp_links.specs.Sending.{new_sending};
 ghost use Rattle.amqp_links.specs.Receiving.{new_receiving};
-ghost use Rattle.amqp_links.specs.Session.{no_links, AddsEnd, RemovesEnd, PutsEnd, life_of};
+ghost use Rattle.amqp_links.specs.Session.{no_links, AddsEnd, HasRoom, RemovesEnd, PutsEnd};
 
 mod attaching;
 mod granting;
@@ -22,9 +23,9 @@ use crate::sending::SendingLink;
 use amqp_credit::Renewal;
 use amqp_unsettled::Unsettled;
 pub use attaching::PeerAttach;
-pub use granting::LinkFlow;
-pub use sending::{SendPartError, SentPart};
-use std::alloc::Global;
+pub use granting::{FlowWish, LinkFlow, PreparedFlow};
+pub use sending::{PreparedPart, SendPartError, SentPart};
+use std::alloc::{AllocError, Global};
 use std::marker::Model;
 pub use taking::{ReceivedPart, TakePartError};
 
@@ -33,7 +34,7 @@ pub use taking::{ReceivedPart, TakePartError};
 pub enum AddError {
     /// The handle has an end already.
     InUse,
-    /// Memory was refused.
+    /// Memory was refused. Not where [`SessionLinks::make_room`] has made room.
     OutOfMemory,
 }
 
@@ -89,6 +90,18 @@ impl SessionLinks {
             sent: Unsettled::new(alloc),
             received: Unsettled::new(alloc),
         }
+    }
+
+    /// Makes room for an end of this handle, so that one can be added to it without memory.
+    ///
+    /// # Errors
+    /// `AllocError` where memory was refused. Nothing has changed then.
+    pub fn make_room(&mut self, handle: u32) -> Result<(), AllocError>
+        ensures ok { OnOk result (HasRoom self.old handle self.new) }
+        ensures err { OnErr result (self.new ≡ self.old) }
+        ensures refused { OnErr result SomeRefused }
+    {
+        self.ends.make_room(handle)
     }
 
     /// A sending end has this handle from now on, whose Attach, from this side, has this `initial-delivery-count`. The handle is the one that the session
@@ -153,7 +166,7 @@ impl SessionLinks {
         let Some(end) = self.ends.get(handle) else {
             return Err(RemoveError::NoLink);
         };
-        if life_of(end) != Life::Detached {
+        if end.life() != Life::Detached {
             return Err(RemoveError::NotDetached);
         }
         if self.sent.count_of(handle) > 0 || self.received.count_of(handle) > 0 {
@@ -170,15 +183,5 @@ impl SessionLinks {
         ensures { PutsEnd self.old handle end self.new }
     {
         self.ends.replace(handle, Some(end));
-    }
-}
-
-/// Where an end stands.
-fn life_of(end: End) -> Life
-    ensures { result ≡ life_of end }
-{
-    match end {
-        End::Sending(link) => link.life(),
-        End::Receiving(link) => link.life(),
     }
 }

@@ -4,8 +4,8 @@ use crate::receiving::first;
 use crate::same::{holds, same};
 use amqp_links::{
     AddError, CreditFlow, End, Entry, Life, LinkEnd, LinkFault, LinkFlow, PartEnd, PartHead,
-    PartTag, PeerAttach, ReceivedPart, RemoveError, Renewal, SendError, SendPartError, SentPart,
-    SessionLinks, TakePartError, TransferError,
+    PartTag, PeerAttach, PreparedPart, ReceivedPart, RemoveError, Renewal, SendError,
+    SendPartError, SentPart, SessionLinks, TakePartError, TransferError,
 };
 use std::alloc::Global;
 use std::process::Abort;
@@ -315,5 +315,64 @@ fn what_is_left_is_told_once(rt: HostRuntime) -> Result<(), Fail> {
     same(&rt, links.left_of_sent(), None);
     same(&rt, links.left_of_received(), entry(7, 0));
     same(&rt, links.left_of_received(), None);
+    Ok(())
+}
+
+/// The part of the sender, which is prepared.
+fn prepared(rt: &impl Abort, links: &mut SessionLinks, part: SentPart) -> PreparedPart {
+    match links.prepare_send(2, part) {
+        Ok(prepared) => prepared,
+        Err(_) => rt.abort(),
+    }
+}
+
+#[test]
+fn a_part_is_sent_in_two_halves(rt: HostRuntime) -> Result<(), Fail> {
+    let mut links = attached(&rt, rt.alloc());
+    let first = prepared(&rt, &mut links, part(7, PartEnd::More, false));
+    holds(&rt, first.is_first());
+    same(&rt, first.part(), part(7, PartEnd::More, false));
+    same(&rt, links.sent(7), entry(7, 2));
+    links.cancel_send(&first);
+    same(&rt, links.sent(7), None);
+    let again = prepared(&rt, &mut links, part(7, PartEnd::More, false));
+    same(&rt, links.finish_send(&again), None);
+    same(&rt, links.sent(7), entry(7, 2));
+    // The credit of 5 has one less, and a later part is no first one.
+    let last = prepared(&rt, &mut links, part(7, PartEnd::Last, true));
+    holds(&rt, !last.is_first());
+    links.cancel_send(&last);
+    same(&rt, links.sent(7), entry(7, 2));
+    same(&rt, links.finish_send(&last), Some(70));
+    same(&rt, links.sent(7), None);
+    for number in 8..12 {
+        same(
+            &rt,
+            links.send(2, part(number, PartEnd::Last, true)),
+            Ok(None),
+        );
+    }
+    same(
+        &rt,
+        links.prepare_send(2, part(12, PartEnd::Last, true)).err(),
+        Some(SendPartError::Link(SendError::NoCredit)),
+    );
+    same(
+        &rt,
+        links.prepare_send(0, part(12, PartEnd::Last, true)).err(),
+        Some(SendPartError::NoSender),
+    );
+    Ok(())
+}
+
+#[test]
+fn room_is_made_for_a_link(rt: HostRuntime) -> Result<(), Fail> {
+    let mut links = attached(&rt, rt.alloc());
+    same(&rt, links.make_room(9), Ok(()));
+    same(&rt, links.make_room(2), Ok(()));
+    same(&rt, life(&links, 2), Some(Life::Attached));
+    same(&rt, life(&links, 9), None);
+    same(&rt, links.add_sender(9, 0), Ok(()));
+    same(&rt, life(&links, 9), Some(Life::Attaching));
     Ok(())
 }

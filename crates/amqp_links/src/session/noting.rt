@@ -28,7 +28,7 @@ pub(super) fn note(
 }
 
 /// Takes out the delivery of a number, where it is of this link, and answers what was given with it.
-fn settle_own(table: &mut Unsettled, link: u32, number: u32) -> Option<u64>
+pub(super) fn settle_own(table: &mut Unsettled, link: u32, number: u32) -> Option<u64>
     ensures { GivesBack table.old link number result table.new }
 {
     let entry = table.get(number)?;

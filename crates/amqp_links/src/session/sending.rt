@@ -1,12 +1,13 @@
 //! Parts of deliveries that are sent.
 
-ghost use Rattle.std.specs.Prelude.{◌≡◌, ◌≢◌, None};
+ghost use Rattle.std.specs.Prelude.{◌≡◌};
 ghost use Rattle.amqp_links.specs.Ends.{end_at};
 ghost use Rattle.amqp_links.specs.Noting.{entry_of};
-ghost use Rattle.amqp_links.specs.SendingParts.{SendsAt, SendsOn, NotesOn, settles};
+ghost use Rattle.amqp_links.specs.SendingParts.{SendsAt, settles};
+ghost use Rattle.amqp_links.specs.Preparing.{PreparesAt, PreparesOn, NotesPrepared, FinishesAt, CancelsSend, opens};
 
 use super::SessionLinks;
-use super::noting::note;
+use super::noting::settle_own;
 use crate::end::End;
 use crate::sending::{SendError, SendingLink};
 use amqp_credit::PartEnd;
@@ -40,6 +41,39 @@ pub enum SendPartError {
     OutOfMemory,
 }
 
+/// A transfer that the link allows, and whose delivery is unsettled where it begins one: it is to go out now.
+#[derive(Clone, Copy, Debug)]
+#[must_use]
+pub struct PreparedPart {
+    handle: u32,
+    part: SentPart,
+    is_first: bool,
+    link: SendingLink,
+}
+
+impl PreparedPart {
+    /// The part, as it was prepared.
+    pub fn part(&self) -> SentPart
+        ensures { result ≡ self.now.part }
+    {
+        self.part
+    }
+
+    /// Whether it begins its delivery.
+    pub fn is_first(&self) -> bool
+        ensures { result ≡ self.now.is_first }
+    {
+        self.is_first
+    }
+
+    /// Whether its delivery is unsettled from it on.
+    fn opens(&self) -> bool
+        ensures { result ≡ opens self.now.is_first self.now.part }
+    {
+        self.is_first && !self.part.settles()
+    }
+}
+
 impl SessionLinks {
     /// A transfer is to be sent on the link that has this handle: it begins a delivery, which takes one of the credit, or goes on with the one that is under
     /// way. A delivery is unsettled from its first part on, unless that is settled. A later part that is settled, or aborts the delivery, settles it: what was
@@ -50,51 +84,91 @@ impl SessionLinks {
     pub fn send(&mut self, handle: u32, part: SentPart) -> Result<Option<u64>, SendPartError>
         ensures { SendsAt (end_at self.old.ends handle) self.old handle part result self.new }
     {
+        match self.prepare_send(handle, part) {
+            Ok(prepared) => Ok(self.finish_send(&prepared)),
+            Err(error) => Err(error),
+        }
+    }
+
+    /// The first half of [`SessionLinks::send`], for a caller whose transfer may still be refused by somebody else, or lack memory: all that can be refused
+    /// here is, and all memory is asked for. The link stands as before. What is answered is given to [`SessionLinks::finish_send`] once the transfer is on
+    /// its way, or to [`SessionLinks::cancel_send`] where it is not, before any other call.
+    ///
+    /// # Errors
+    /// Those of [`SessionLinks::send`]: nothing has changed then.
+    pub fn prepare_send(
+        &mut self,
+        handle: u32,
+        part: SentPart,
+    ) -> Result<PreparedPart, SendPartError>
+        ensures { PreparesAt (end_at self.old.ends handle) self.old handle part result self.new }
+    {
         let Some(end) = self.end(handle) else {
             return Err(SendPartError::NoSender);
         };
         match end {
-            End::Sending(link) => self.send_on(link, handle, part),
+            End::Sending(link) => self.prepare_on(link, handle, part),
             End::Receiving(_) => Err(SendPartError::NoSender),
         }
     }
 
     /// The same of the end that has the handle.
-    fn send_on(
+    fn prepare_on(
         &mut self,
         link: SendingLink,
         handle: u32,
         part: SentPart,
-    ) -> Result<Option<u64>, SendPartError>
-        requires { end_at self.old.ends handle ≢ None }
-        ensures { SendsOn link self.old handle part result self.new }
+    ) -> Result<PreparedPart, SendPartError>
+        ensures { PreparesOn link self.old handle part result self.new }
     {
-        let mut link = link;
         let is_first = link.under_way().is_none();
-        match link.send(part.size, part.end) {
-            Ok(()) => self.note_sent(link, is_first, handle, part),
-            Err(error) => Err(SendPartError::Link(error)),
+        let mut link = link;
+        if let Err(error) = link.send(part.size, part.end) {
+            return Err(SendPartError::Link(error));
+        }
+        self.note_prepared(PreparedPart {
+            handle,
+            part,
+            is_first,
+            link,
+        })
+    }
+
+    /// Its delivery is unsettled, where it begins one that is not settled.
+    fn note_prepared(&mut self, prepared: PreparedPart) -> Result<PreparedPart, SendPartError>
+        ensures { NotesPrepared prepared self.old result self.new }
+    {
+        if !prepared.opens() {
+            return Ok(prepared);
+        }
+        match self.sent.insert(prepared.part.entry(prepared.handle)) {
+            Ok(()) => Ok(prepared),
+            Err(InsertError::NotNext) => Err(SendPartError::NotNext),
+            Err(InsertError::OutOfMemory) => Err(SendPartError::OutOfMemory),
         }
     }
 
-    /// The end has sent this part.
-    fn note_sent(
-        &mut self,
-        link: SendingLink,
-        is_first: bool,
-        handle: u32,
-        part: SentPart,
-    ) -> Result<Option<u64>, SendPartError>
-        requires { end_at self.old.ends handle ≢ None }
-        ensures { NotesOn link is_first self.old handle part result self.new }
+    /// The transfer that was prepared is on its way: its link stands as after it. It answers as [`SessionLinks::send`]. Where no end has the handle any more
+    /// nothing changes.
+    pub fn finish_send(&mut self, prepared: &PreparedPart) -> Option<u64>
+        ensures { FinishesAt (end_at self.old.ends prepared.now.handle) prepared.now self.old result self.new }
     {
-        match note(&mut self.sent, is_first, part.settles(), part.entry(handle)) {
-            Ok(settled) => {
-                self.put(handle, End::Sending(link));
-                Ok(settled)
-            }
-            Err(InsertError::NotNext) => Err(SendPartError::NotNext),
-            Err(InsertError::OutOfMemory) => Err(SendPartError::OutOfMemory),
+        if self.end(prepared.handle).is_none() {
+            return None;
+        }
+        self.put(prepared.handle, End::Sending(prepared.link));
+        if prepared.is_first || !prepared.part.settles() {
+            return None;
+        }
+        settle_own(&mut self.sent, prepared.handle, prepared.part.number)
+    }
+
+    /// The transfer that was prepared is not sent: all stands as before [`SessionLinks::prepare_send`].
+    pub fn cancel_send(&mut self, prepared: &PreparedPart)
+        ensures { CancelsSend prepared.now self.old self.new }
+    {
+        if prepared.opens() {
+            drop(self.sent.remove(prepared.part.number));
         }
     }
 }

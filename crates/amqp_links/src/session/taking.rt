@@ -17,7 +17,8 @@ use amqp_unsettled::{Entry, InsertError};
 pub struct ReceivedPart {
     /// The part.
     pub part: Part,
-    /// What was given with the delivery, where this part settles or aborts it, and it was unsettled before.
+    /// What was given with the unsettled delivery of this number on this link, where this part settles or aborts it and is not its first one. A peer that uses the
+    /// number of an unsettled delivery again, which it may not (AMQP 1.0 part 2, section 2.8.4), settles that one so.
     pub settled: Option<u64>,
 }
 
