@@ -34,7 +34,10 @@ HISTORIES = (
     ("amqp_links", ("SendingLink",), ("amqp_links", "SendingHistory", "SendingStep")),
     ("amqp_links", ("ReceivingLink",), ("amqp_links", "ReceivingHistory", "ReceivingStep")),
     ("amqp_unsettled", ("Unsettled",), ("amqp_unsettled", "History", "TableStep")),
+    ("amqp_endpoints", ("SessionEndpoint",), ("amqp_endpoints", "History", "EndpointStep")),
 )
+# Crates whose steps have names of their own: each definition of the crate that the step of its histories cites is one.
+BY_OWN_NAMES = ("amqp_endpoints",)
 LEGAL = "amqp_engine", "Legal", "Legal"
 OWNER = re.compile(r"impl(?:<.*?>)? (?:[\w:]+(?:<.*?>)? for )?(\w+)")
 # The value stays as it was, or but for a driver's bytes.
@@ -67,7 +70,7 @@ def cited(of):
 @cache
 def steps(step):
     """What a step of a history is made of: the definitions that say what each call does."""
-    return {use for use in cited(step) if use[2].endswith("Step") or use[2] == "stopped"}
+    return {use for use in cited(step) if use[2].endswith("Step") or use[2] == "stopped" or use[0] == step[0] in BY_OWN_NAMES}
 
 
 def speaks(of, step):

@@ -1,5 +1,22 @@
 //! The flags of records, in [`Record::flags`](crate::Record): what a frame says besides. No flag changes its meaning.
 
+ghost use Rattle.std.specs.Prelude.{◌≡◌, ◌<◌};
+ghost use Rattle.amqp_driver.specs.Heads.{has};
+
+use crate::head::has;
+
+/// Whether a flag is set among those of a record or of a head.
+///
+/// ```
+/// if flag::is_set(record.flags, flag::SETTLED) { .. }
+/// ```
+pub fn is_set(flags: u16, flag: u16) -> bool
+    requires { 0 < flag }
+    ensures { result ≡ has flags flag }
+{
+    has(flags, flag)
+}
+
 /// A transfer gives the number of its delivery: it is the first one.
 pub const NUMBERED: u16 = 1;
 

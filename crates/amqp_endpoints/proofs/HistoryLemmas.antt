@@ -1,0 +1,299 @@
+-- Whatever is called on an endpoint, its links go on by calls of a session's links.
+use Rattle.std.proofs.Common.{ℕ, ◌^◌, ◌<◌, ◌≡◌, inl, inr, not, nat_eq, Bool, true, false, List, [], ◌∷◌, ◌++◌, Option, Some, None, Result, Ok, Err, refl, ap}
+use Rattle.amqp_types.specs.Attach.{AttachModel}
+use Rattle.amqp_types.specs.Error.{ErrorModel}
+use Rattle.amqp_types.specs.declared.definitions.Role.{Role}
+use Rattle.amqp_types.specs.declared.definitions.Role.TheVariants as role
+use Rattle.amqp_credit.specs.Chain.{Chain}
+use Rattle.amqp_credit.specs.declared.receiver.Renewal.{Renewal}
+use Rattle.amqp_credit.proofs.ChainLemmas.{joined}
+use Rattle.amqp_session.specs.Relay.{Relays}
+use Rattle.amqp_session.specs.declared.numbers.OutputHandle.{OutputHandle}
+use Rattle.amqp_driver.specs.declared.asked.Asked.{Asked}
+use Rattle.amqp_driver.specs.declared.head.TransferHead.{TransferHead}
+use Rattle.amqp_driver.specs.declared.record.Record.{Record}
+use Rattle.amqp_driver.specs.Record.{number_or}
+use Rattle.amqp_driver.specs.Stream.{StreamView}
+use Rattle.amqp_links.specs.declared.session.granting.FlowWish.{FlowWish}
+use Rattle.amqp_links.specs.declared.session.granting.FlowWish.TheVariants as wish
+use Rattle.amqp_links.specs.declared.session.granting.LinkFlow.{LinkFlow}
+use Rattle.amqp_links.specs.declared.session.granting.PreparedFlow.{PreparedFlow}
+use Rattle.amqp_links.specs.declared.session.taking.TakePartError.TheVariants as take
+use Rattle.amqp_links.specs.declared.receiving.TransferError.TheVariants as error
+use Rattle.amqp_links.specs.Ends.{end_at}
+use Rattle.amqp_links.specs.PreparingFlow.{PreparesFlow, SaysAt}
+use Rattle.amqp_links.specs.Session.{LinksView}
+use Rattle.amqp_links.specs.SessionHistory.{LinksCall, LinksLeadTo, LinksStep}
+use Rattle.amqp_links.specs.SessionHistory as call
+use Rattle.amqp_links.specs.declared.receiving.LinkFault.{LinkFault}
+use Rattle.amqp_links.specs.declared.session.RemoveError.{RemoveError}
+use Rattle.amqp_links.specs.declared.session.sending.SentPart.{SentPart}
+use Rattle.amqp_links.specs.SendingParts.{SendsAt}
+use Rattle.amqp_links.proofs.HalvesLemmas.{halves_say}
+use Rattle.amqp_unsettled.specs.declared.entry.Entry.{Entry}
+use Rattle.amqp_endpoints.specs.declared.endpoint.attaching.AttachError.{AttachError}
+use Rattle.amqp_endpoints.specs.declared.endpoint.attaching.AttachError.TheVariants as unattached
+use Rattle.amqp_endpoints.specs.declared.endpoint.sending.SendFailure.{SendFailure}
+use Rattle.amqp_endpoints.specs.declared.endpoint.sending.SendFailure.TheVariants as failed
+use Rattle.amqp_endpoints.specs.declared.endpoint.sending.SentDelivery.{SentDelivery}
+use Rattle.amqp_endpoints.specs.declared.event.LinkEvent.{LinkEvent}
+use Rattle.amqp_endpoints.specs.declared.event.LinkEvent.TheVariants as event
+use Rattle.amqp_endpoints.specs.declared.event.RecordError.{RecordError}
+use Rattle.amqp_endpoints.specs.declared.event.RecordError.TheVariants as no
+use Rattle.amqp_endpoints.specs.Attaching.{AddsLink, AsksAttach, AttachesBy, AttachesLink, FindsHandle, end_by_role, handle_named}
+use Rattle.amqp_endpoints.specs.Endpoint.{EndpointView, RemovesUnless, SettlesNext, Stands, new_endpoint}
+use Rattle.amqp_endpoints.specs.Flowing.{DetachesFor, DetachesIf, EndsFor, FinishesIf, Responds, SaysFlow, awaits, fault_error, is_done}
+use Rattle.amqp_endpoints.specs.History.{EndpointCall, EndpointStep, HaveHistories, IsTold}
+use Rattle.amqp_endpoints.specs.History as history
+use Rattle.amqp_endpoints.specs.Places.{place_at}
+use Rattle.amqp_endpoints.specs.Reading.{credit_flow, part_head, peer_attach}
+use Rattle.amqp_endpoints.specs.Sending.{BeginsIf, SendsPart, is_first_of, part_of}
+use Rattle.amqp_endpoints.specs.Telling.{Choose, KeepsTag, OnRecord, OwesIf, TakesBy, TellsAny, TellsAttach, TellsDetach, TellsFlow, TellsLink, TellsOk, TellsPart, is_unanswered, link_by, without_input}
+
+-- the links go on by calls of their own
+abbrev GoesOn : LinksView → LinksView → Type 0
+GoesOn l m = (K : List LinksCall) × Chain LinksStep l K m
+
+still : (v w : EndpointView) → w ≡ v → GoesOn v.links w.links
+still v w e = ([], ap (λ (x : EndpointView). x.links) e)
+
+one : (l m : LinksView) (c : LinksCall) → LinksStep l c m → GoesOn l m
+one l m c step = (c ∷ [], (m, step, refl))
+
+both : (l m n : LinksView) → GoesOn l m → GoesOn m n → GoesOn l n
+both l m n a b = (a.0 ++ b.0, joined LinksStep l m n a.0 b.0 a.1 b.1)
+
+choose : (b : Bool) (A B C : Type 0) → (A → C) → (B → C) → Choose b A B → C
+choose true A B C there other h = there h
+choose false A B C there other h = other h
+
+-- ---- records
+
+attach_goes : (v w : EndpointView) (r : Record) (h : ℕ) (result : Result LinkEvent RecordError) → r.count < 2 ^ 32 → TellsAttach v r h result w
+    → GoesOn v.links w.links
+attach_goes v w r h (Ok (event.Attached k life)) small s = one v.links w.links (call.Attaches h (peer_attach r) (Some life)) (small, s.1.0)
+attach_goes v w r h (Ok event.Nothing) small s = still v w s.1
+attach_goes v w r h (Ok (event.Flow k used)) small s = absurd s
+attach_goes v w r h (Ok (event.Part k told)) small s = absurd s
+attach_goes v w r h (Ok (event.PassedOver k)) small s = absurd s
+attach_goes v w r h (Ok (event.Fault k f)) small s = absurd s
+attach_goes v w r h (Ok (event.Settled role first last)) small s = absurd s
+attach_goes v w r h (Ok (event.Ended k end closed)) small s = absurd s
+attach_goes v w r h (Err no.NotNext) small s = absurd s
+attach_goes v w r h (Err no.OutOfMemory) small s = still v w s.0
+
+flow_goes : (v w : EndpointView) (r : Record) (h : ℕ) (e : LinkEvent) → TellsFlow v r h e w → GoesOn v.links w.links
+flow_goes v w r h (event.Flow k used) s = one v.links w.links (call.Flows h (credit_flow r) (Some (Ok used))) s.1.0
+flow_goes v w r h (event.Fault k f) s = one v.links w.links (call.Flows h (credit_flow r) (Some (Err f))) s.1.0
+flow_goes v w r h event.Nothing s = one v.links w.links (call.Flows h (credit_flow r) None) s.0
+flow_goes v w r h (event.Attached k life) s = absurd s
+flow_goes v w r h (event.Part k told) s = absurd s
+flow_goes v w r h (event.PassedOver k) s = absurd s
+flow_goes v w r h (event.Settled role first last) s = absurd s
+flow_goes v w r h (event.Ended k end closed) s = absurd s
+
+keeps : (b : Bool) (v w : EndpointView) (r : Record) (h : ℕ) (Step : LinksView → LinksView → Type 0) → KeepsTag b v r h Step w → Step v.links w.links
+keeps true v w r h Step s = s.0
+keeps false v w r h Step s = s.0
+
+part_goes : (v w : EndpointView) (r : Record) (h given : ℕ) (result : Result LinkEvent RecordError) → IsTold result → TellsPart v r h given result w
+    → GoesOn v.links w.links
+part_goes v w r h given (Ok (event.Part k told)) small s = one v.links w.links (call.Takes h (part_head (place_at v.places h) r) given (Ok told))
+    (small, keeps told.part.is_first v w r h (TakesBy v r h given (Ok told)) s.1)
+part_goes v w r h given (Ok (event.PassedOver k)) small s =
+    one v.links w.links (call.Takes h (part_head (place_at v.places h) r) given (Err (take.Link error.NotAttached))) (tt, s.1.0)
+part_goes v w r h given (Ok (event.Fault k f)) small s =
+    one v.links w.links (call.Takes h (part_head (place_at v.places h) r) given (Err (take.Link (error.Fault f)))) (tt, s.1.0)
+part_goes v w r h given (Ok event.Nothing) small s =
+    one v.links w.links (call.Takes h (part_head (place_at v.places h) r) given (Err take.NoReceiver)) (tt, s.0)
+part_goes v w r h given (Err no.NotNext) small s =
+    one v.links w.links (call.Takes h (part_head (place_at v.places h) r) given (Err take.NotNext)) (tt, s.0)
+part_goes v w r h given (Err no.OutOfMemory) small s =
+    one v.links w.links (call.Takes h (part_head (place_at v.places h) r) given (Err take.OutOfMemory)) (tt, s.0)
+part_goes v w r h given (Ok (event.Attached k life)) small s = absurd s
+part_goes v w r h given (Ok (event.Flow k used)) small s = absurd s
+part_goes v w r h given (Ok (event.Settled role first last)) small s = absurd s
+part_goes v w r h given (Ok (event.Ended k end closed)) small s = absurd s
+
+owes : (b : Bool) (v w : EndpointView) (h : ℕ) (Step : LinksView → LinksView → Type 0) → OwesIf b v h Step w → Step v.links w.links
+owes true v w h Step s = s.0
+owes false v w h Step s = s.0
+
+detach_goes : (v w : EndpointView) (r : Record) (h : ℕ) (e : LinkEvent) → TellsDetach v r h e w → GoesOn v.links w.links
+detach_goes v w r h (event.Ended k end closed) s = one v.links w.links (call.Ends h (Some end))
+    (owes (is_unanswered end) (without_input v r) w h (λ l m. _) s.2)
+detach_goes v w r h event.Nothing s = one v.links w.links (call.Ends h None) s.0
+detach_goes v w r h (event.Attached k life) s = absurd s
+detach_goes v w r h (event.Flow k used) s = absurd s
+detach_goes v w r h (event.Part k told) s = absurd s
+detach_goes v w r h (event.PassedOver k) s = absurd s
+detach_goes v w r h (event.Fault k f) s = absurd s
+detach_goes v w r h (event.Settled role first last) s = absurd s
+
+ok_goes : (v w : EndpointView) (Tells : LinkEvent → EndpointView → Type 0) (result : Result LinkEvent RecordError)
+    → ((e : LinkEvent) → Tells e w → GoesOn v.links w.links) → TellsOk Tells result w → GoesOn v.links w.links
+ok_goes v w Tells (Ok e) each s = each e s
+ok_goes v w Tells (Err error) each s = absurd s
+
+link_goes : (v w : EndpointView) (r : Record) (h given : ℕ) (result : Result LinkEvent RecordError) → r.count < 2 ^ 32 → IsTold result
+    → TellsLink v r h given result w → GoesOn v.links w.links
+link_goes v w r h given result small told =
+    choose (nat_eq r.kind 6) _ _ _ (part_goes v w r h given result told)
+    (choose (nat_eq r.kind 5) _ _ _ (ok_goes v w (TellsFlow v r h) result (flow_goes v w r h))
+    (choose (nat_eq r.kind 3) _ _ _ (attach_goes v w r h result small)
+    (choose (nat_eq r.kind 8) _ _ _ (ok_goes v w (TellsDetach v r h) result (detach_goes v w r h))
+    (λ s. still v w s.1))))
+
+any_goes : (v w : EndpointView) (r : Record) (given : ℕ) (result : Result LinkEvent RecordError) (o : Option ℕ) → r.count < 2 ^ 32 → IsTold result
+    → TellsAny o v r given result w → GoesOn v.links w.links
+any_goes v w r given result None small told s = still v w s.1
+any_goes v w r given result (Some h) small told s = link_goes v w r h given result small told s
+
+record_goes : (v w : EndpointView) (r : Record) (given : ℕ) (result : Result LinkEvent RecordError) → r.count < 2 ^ 32 → IsTold result
+    → OnRecord v r given result w → GoesOn v.links w.links
+record_goes v w r given result small told =
+    choose (not (nat_eq r.session v.session.0)) _ _ _ (λ s. still v w s.1)
+    (choose (nat_eq r.kind 7) _ _ _ (λ s. still v w s.1) (any_goes v w r given result (link_by v r) small told))
+
+-- ---- attaches
+
+stands_goes : (v w : EndpointView) → Stands v w → GoesOn v.links w.links
+stands_goes v w s = one v.links w.links (call.MakesRoom 0) s.links
+
+finds_goes : (v w : EndpointView) (o : Option OutputHandle) (found : Result OutputHandle AttachError) → FindsHandle o v found w → GoesOn v.links w.links
+finds_goes v w None found s = still v w s.1
+finds_goes v w (Some h) (Ok handle) s = stands_goes v w s.2.stands
+finds_goes v w (Some h) (Err unattached.InUse) s = still v w s.1
+finds_goes v w (Some h) (Err unattached.OutOfMemory) s = stands_goes v w s.1
+finds_goes v w (Some h) (Err unattached.NoLink) s = absurd s
+finds_goes v w (Some h) (Err (unattached.Asked a)) s = absurd s
+
+adds_goes : (r : Role) (a : AttachModel) (renewal : Option Renewal) (v w : EndpointView) (h : ℕ) → number_or 0 a.initial_delivery_count < 2 ^ 32
+    → AddsLink v h (end_by_role r a renewal) w → GoesOn v.links w.links
+adds_goes role.Sender a renewal v w h small s =
+    one v.links w.links (call.AddsSender h (number_or 0 a.initial_delivery_count) (Ok tt)) (small, s.0)
+adds_goes role.Receiver a renewal v w h small s = one v.links w.links (call.AddsReceiver h renewal a.max_message_size (Ok tt)) s.0
+
+asks_goes : {R : Type 0} (g : Relays R) (v w : EndpointView) (s s' : StreamView R) (said : AttachModel) (a : AttachModel) (renewal : Option Renewal)
+    (h : OutputHandle) (result : Result OutputHandle AttachError) → number_or 0 a.initial_delivery_count < 2 ^ 32
+    → AsksAttach g v s said h (end_by_role a.role a renewal) result s' w → GoesOn v.links w.links
+asks_goes g v w s s' said a renewal h (Ok handle) small x = adds_goes a.role a renewal v w h.0 small x.2
+asks_goes g v w s s' said a renewal h (Err (unattached.Asked answer)) small x = still v w x.2
+asks_goes g v w s s' said a renewal h (Err unattached.NoLink) small x = absurd x
+asks_goes g v w s s' said a renewal h (Err unattached.InUse) small x = absurd x
+asks_goes g v w s s' said a renewal h (Err unattached.OutOfMemory) small x = absurd x
+
+attaches_by : {R : Type 0} (g : Relays R) (v w : EndpointView) (s s' : StreamView R) (a : AttachModel) (renewal : Option Renewal)
+    (found result : Result OutputHandle AttachError) → number_or 0 a.initial_delivery_count < 2 ^ 32 → AttachesBy found g v s a renewal result s' w
+    → GoesOn v.links w.links
+attaches_by g v w s s' a renewal (Err error) result small x = still v w x.2
+attaches_by g v w s s' a renewal (Ok h) result small x = asks_goes g v w s s' _ a renewal h result small x
+
+attached_goes : {R : Type 0} (g : Relays R) (v w : EndpointView) (s s' : StreamView R) (a : AttachModel) (renewal : Option Renewal)
+    (result : Result OutputHandle AttachError) → number_or 0 a.initial_delivery_count < 2 ^ 32 → AttachesLink g v s a renewal result s' w → GoesOn v.links w.links
+attached_goes g v w s s' a renewal result small x =
+    both v.links x.between.links w.links (finds_goes v x.between (handle_named s v a.name) x.found x.finds)
+    (attaches_by g x.between w s s' a renewal x.found result small x.attaches)
+
+-- ---- flows
+
+-- the call of a wish
+abbrev call_of : FlowWish → ℕ → Option LinkFlow → LinksCall
+call_of (wish.Grant n) h answer = call.Grants h n answer
+call_of wish.Drain h answer = call.Drains h answer
+call_of wish.Renew h answer = call.Renews h answer
+call_of (wish.Answer n) h answer = call.Answers h n answer
+
+step_of : (wished : FlowWish) (l m : LinksView) (h : ℕ) (f : LinkFlow) → SaysAt wished (end_at l.ends h) l h (Some f) m
+    → LinksStep l (call_of wished h (Some f)) m
+step_of (wish.Grant n) l m h f s = s
+step_of wish.Drain l m h f s = s
+step_of wish.Renew l m h f s = s
+step_of (wish.Answer n) l m h f s = s
+
+finishes_goes : (b : Bool) (wished : FlowWish) (v w : EndpointView) (h : ℕ) (q : PreparedFlow) → PreparesFlow wished (end_at v.links.ends h) h (Some q)
+    → FinishesIf b q v w → GoesOn v.links w.links
+finishes_goes true wished v w h q prepares x =
+    one v.links w.links (call_of wished h (Some q.said)) (step_of wished v.links w.links h q.said (halves_say wished v.links w.links h q prepares x.0))
+finishes_goes false wished v w h q prepares x = still v w x
+
+says_goes : {R : Type 0} (g : Relays R) (v w : EndpointView) (s s' : StreamView R) (h : ℕ) (wished : FlowWish) (answer : Option Asked)
+    → SaysFlow g v s h wished answer s' w → GoesOn v.links w.links
+says_goes g v w s s' h wished None x = still v w x.2
+says_goes g v w s s' h wished (Some a) x = finishes_goes (is_done a) wished v w h x.0 x.1 x.2.1
+
+-- ---- Detaches
+
+detached_goes : (b : Bool) (v w : EndpointView) (h : ℕ) → DetachesIf b h v w → GoesOn v.links w.links
+detached_goes true v w h x = one v.links w.links (call.Detaches h x.0) x.1.0
+detached_goes false v w h x = still v w x
+
+detaches_by : {R : Type 0} (g : Relays R) (o : Option Bool) (v w : EndpointView) (s s' : StreamView R) (h : ℕ) (closed : Bool) (e : Option ErrorModel)
+    (answer : Option Asked) → DetachesFor o g v s h closed e answer s' w → GoesOn v.links w.links
+detaches_by g None v w s s' h closed e answer x = still v w x.2
+detaches_by g (Some waits) v w s s' h closed e answer x = detached_goes (is_done x.0) v w h x.2.1
+
+ends_goes : {R : Type 0} (g : Relays R) (v w : EndpointView) (s s' : StreamView R) (h : ℕ) (f : LinkFault) (answer : Option Asked)
+    → EndsFor g v s h f answer s' w → GoesOn v.links w.links
+ends_goes g v w s s' h f answer (inl x) = detaches_by g (awaits v h) v w s s' h true (Some (fault_error f)) answer x
+ends_goes g v w s s' h f answer (inr x) = still v w x.2
+
+responds_goes : {R : Type 0} (g : Relays R) (v w : EndpointView) (s s' : StreamView R) (e : LinkEvent) (available : ℕ) (answer : Option Asked)
+    → Responds g v s e available answer s' w → GoesOn v.links w.links
+responds_goes g v w s s' (event.Attached h life) available answer x = says_goes g v w s s' h wish.Renew answer x
+responds_goes g v w s s' (event.Part h told) available answer x = says_goes g v w s s' h wish.Renew answer x
+responds_goes g v w s s' (event.Flow h used) available answer x = says_goes g v w s s' h (wish.Answer available) answer x
+responds_goes g v w s s' (event.Fault h f) available answer x = ends_goes g v w s s' h f answer x
+responds_goes g v w s s' (event.Ended h end closed) available answer x = detaches_by g (awaits v h) v w s s' h closed None answer x
+responds_goes g v w s s' event.Nothing available answer x = still v w x.2
+responds_goes g v w s s' (event.PassedOver h) available answer x = still v w x.2
+responds_goes g v w s s' (event.Settled role first last) available answer x = still v w x.2
+
+-- ---- transfers
+
+begins : (b : Bool) (v w : EndpointView) (h n : ℕ) (Step : LinksView → LinksView → Type 0) → BeginsIf b v h n Step w → Step v.links w.links
+begins true v w h n Step x = x.0
+begins false v w h n Step x = x.0
+
+sends_goes : {R : Type 0} (g : Relays R) (v w : EndpointView) (s s' : StreamView R) (head : TransferHead) (bytes : List ℕ) (p : SentPart) (first : Bool)
+    (result : Result SentDelivery SendFailure) → p.number < 2 ^ 32 → SendsPart g v s head bytes p first result s' w → GoesOn v.links w.links
+sends_goes g v w s s' head bytes p first (Ok told) small x =
+    one v.links w.links (call.Sends head.link p (Ok told.settled))
+    (small, begins first v w head.link p.number (λ l m. SendsAt (end_at l.ends head.link) l head.link p (Ok told.settled) m) x.2)
+sends_goes g v w s s' head bytes p first (Err (failed.Link e)) small x = still v w x.2
+sends_goes g v w s s' head bytes p first (Err (failed.Refused why)) small x = still v w x.1
+sends_goes g v w s s' head bytes p first (Err (failed.Stopped why)) small x = still v w x.1
+
+-- ---- what is settled, and left
+
+settles_goes : (v w : EndpointView) (r : Role) (first last : ℕ) (given : Option Entry) → SettlesNext r first last v given w → GoesOn v.links w.links
+settles_goes v w role.Sender first last given x = one v.links w.links (call.SettlesOfSent first last given) x.0
+settles_goes v w role.Receiver first last given x = one v.links w.links (call.SettlesOfReceived first last given) x.0
+
+removes_goes : (b : Bool) (v w : EndpointView) (h : ℕ) (result : Result (Unit {0}) RemoveError) → RemovesUnless b v h result w → GoesOn v.links w.links
+removes_goes true v w h result x = still v w x.1
+removes_goes false v w h result x = one v.links w.links (call.Removes h result) x.0
+
+-- ---- each call, and all of them
+
+step_goes : {R : Type 0} (g : Relays R) (v w : EndpointView) (c : EndpointCall) → EndpointStep g v c w → GoesOn v.links w.links
+step_goes g v w (history.Told r given result) x = record_goes v w r given result x.0 x.1 x.2
+step_goes g v w (history.Wanted r h result) x = attach_goes v w r h result x.0 x.1
+step_goes g v w (history.Attaches a renewal result) x = attached_goes g v w x.0 x.1 a renewal result x.2 x.3
+step_goes g v w (history.Says h wished answer) x = says_goes g v w x.0 x.1 h wished answer x.2
+step_goes g v w (history.Detaches h closed e answer) x = detaches_by g (awaits v h) v w x.0 x.1 h closed e answer x.2
+step_goes g v w (history.Responds e available answer) x = responds_goes g v w x.0 x.1 e available answer x.2
+step_goes g v w (history.Sends head bytes given result) x = sends_goes g v w x.0 x.1 head bytes
+    (part_of v x.0 head given (is_first_of (end_at v.links.ends head.link))) (is_first_of (end_at v.links.ends head.link)) result x.2 x.3
+step_goes g v w (history.Settles r first last given) x = settles_goes v w r first last given x
+step_goes g v w (history.Leaves h given) x = one v.links w.links (call.Leaves h given) x.0
+step_goes g v w (history.LeavesOfSent given) x = one v.links w.links (call.LeavesOfSent given) x.0
+step_goes g v w (history.LeavesOfReceived given) x = one v.links w.links (call.LeavesOfReceived given) x.0
+step_goes g v w (history.RemovesLink h result) x = removes_goes (place_at v.places h).owes v w h result x
+
+all_go : {R : Type 0} (g : Relays R) (v w : EndpointView) (H : List EndpointCall) → Chain (EndpointStep g) v H w → GoesOn v.links w.links
+all_go g v w [] chain = still v w chain
+all_go g v w (c ∷ cs) chain = both v.links chain.0.links w.links (step_goes g v chain.0 c chain.1) (all_go g chain.0 w cs chain.2)
+
+pub have_histories : {R : Type 0} (g : Relays R) → HaveHistories g
+have_histories g n H v leads = all_go g (new_endpoint n) v H leads

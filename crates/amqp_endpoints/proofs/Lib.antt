@@ -1,0 +1,3 @@
+mod SendingLemmas
+mod SettlingLemmas
+mod HistoryLemmas

@@ -1,0 +1,129 @@
+-- Part: other calls.
+-- What this side says of its links: flows, and Detaches (AMQP 1.0 part 2, sections 2.6.3 to 2.6.7 and 2.7.4).
+use Rattle.std.specs.Prelude.{ℕ, ◌≡◌, ◌⊎◌, Bool, true, false, Option, Some, None}
+use Rattle.amqp_memory.specs.Refusal.{SomeRefused}
+use Rattle.amqp_types.specs.Detach.{DetachModel}
+use Rattle.amqp_types.specs.Error.{ErrorModel}
+use Rattle.amqp_session.specs.Relay.{Relays}
+use Rattle.amqp_session.specs.declared.flow.LinkFlow.{LinkFlow}
+use Rattle.amqp_engine.specs.declared.engine.input.Input.TheVariants as input
+use Rattle.amqp_driver.specs.declared.asked.Asked.{Asked}
+use Rattle.amqp_driver.specs.declared.asked.Asked.TheVariants as asked
+use Rattle.amqp_driver.specs.Stream.{StreamView}
+use Rattle.amqp_driver.specs.StreamTaking.{error_of}
+use Rattle.amqp_driver.specs.StreamTicking.{AsksStream}
+use Rattle.amqp_links.specs.declared.end.End.{End}
+use Rattle.amqp_links.specs.declared.life.Life.{Life}
+use Rattle.amqp_links.specs.declared.life.Life.TheVariants.{Detaching, Detached}
+use Rattle.amqp_links.specs.declared.receiving.LinkFault.{LinkFault}
+use Rattle.amqp_links.specs.declared.session.granting.FlowWish.{FlowWish}
+use Rattle.amqp_links.specs.declared.session.granting.FlowWish.TheVariants as wish
+use Rattle.amqp_links.specs.declared.session.granting.LinkFlow as says
+use Rattle.amqp_links.specs.declared.session.granting.PreparedFlow.{PreparedFlow}
+use Rattle.amqp_links.specs.Attaching.{DetachesAt}
+use Rattle.amqp_links.specs.Ends.{end_at}
+use Rattle.amqp_links.specs.PreparingFlow.{PreparesFlow, FinishesFlow}
+use Rattle.amqp_links.specs.Receiving.{condition_of}
+use Rattle.amqp_links.specs.Session.{life_of}
+use Rattle.amqp_endpoints.specs.declared.event.LinkEvent.{LinkEvent}
+use Rattle.amqp_endpoints.specs.declared.event.LinkEvent.TheVariants as event
+use Rattle.amqp_endpoints.specs.declared.place.LinkPlace.{LinkPlace}
+use Rattle.amqp_endpoints.specs.Endpoint.{EndpointView, OnLinks}
+use Rattle.amqp_endpoints.specs.Places.{place_at}
+use Rattle.amqp_endpoints.specs.Telling.{OnPlace}
+
+abbrev pub is_done : Asked → Bool
+is_done asked.Done = true
+is_done a = false
+
+-- ---- a flow
+
+-- the flow that says this of a link
+abbrev pub flow_of : ℕ → says.LinkFlow → LinkFlow
+flow_of h f = record {
+  handle = record { 0 = h };
+  delivery_count = Some f.delivery_count;
+  link_credit = Some f.link_credit;
+  available = f.available;
+  drain = f.drain;
+  echo = false;
+  properties = None;
+}
+
+abbrev pub FinishesIf : Bool → PreparedFlow → EndpointView → EndpointView → Type 0
+FinishesIf true q v w = OnLinks (λ l m. FinishesFlow (end_at l.ends q.handle) q l m) v w
+FinishesIf false q v w = w ≡ v
+
+-- It is requested; and the link stands as after it where that is done, and else as before.
+abbrev pub AsksFlow : {R : Type 0} → Relays R → EndpointView → StreamView R → ℕ → PreparedFlow → Asked → StreamView R → EndpointView → Type 0
+AsksFlow g v s h q a s' w = AsksStream g s (input.Flow v.session (flow_of h q.said)) a s' × FinishesIf (is_done a) q v w
+
+-- The flow is what the link says for the wish, if it says one.
+abbrev pub SaysFlow : {R : Type 0} → Relays R → EndpointView → StreamView R → ℕ → FlowWish → Option Asked → StreamView R → EndpointView → Type 0
+SaysFlow g v s h wished None s' w = PreparesFlow wished (end_at v.links.ends h) h None × (s' ≡ s) × (w ≡ v)
+SaysFlow g v s h wished (Some a) s' w =
+    (q : PreparedFlow) × PreparesFlow wished (end_at v.links.ends h) h (Some q) × AsksFlow g v s h q a s' w
+
+-- ---- a Detach
+
+abbrev pub if_owed : Bool → Bool → Option Bool
+if_owed true waits = Some waits
+if_owed false waits = None
+
+-- Whether the peer's Detach is to come after this side's; where this side's may be sent: it was not sent before, or is owed.
+abbrev pub waits_for : Life → Bool → Option Bool
+waits_for Detaching owes = if_owed owes true
+waits_for Detached owes = if_owed owes false
+waits_for life owes = Some true
+
+abbrev pub waits_at : Option End → Bool → Option Bool
+waits_at None owes = None
+waits_at (Some e) owes = waits_for (life_of e) owes
+
+abbrev pub awaits : EndpointView → ℕ → Option Bool
+awaits v h = waits_at (end_at v.links.ends h) (place_at v.places h).owes
+
+abbrev pub detach_of : ℕ → Bool → Option ErrorModel → DetachModel
+detach_of h closed error = record { handle = h; closed = closed; error = error }
+
+-- none is owed any more
+abbrev pub paid : EndpointView → ℕ → LinkPlace
+paid v h = record (place_at v.places h) { owes = false }
+
+abbrev pub DetachesIf : Bool → ℕ → EndpointView → EndpointView → Type 0
+DetachesIf true h v w = (life : Option Life) × OnPlace (λ l m. DetachesAt (end_at l.ends h) l h life m) h (paid v h) v w
+DetachesIf false h v w = w ≡ v
+
+-- It is requested; and the link is detached where that is done, and else stands as before.
+abbrev pub AsksDetach : {R : Type 0} → Relays R → EndpointView → StreamView R → ℕ → Bool → Option ErrorModel → Bool → Asked → StreamView R → EndpointView → Type 0
+AsksDetach g v s h closed error waits a s' w =
+    AsksStream g s (input.Detach v.session (detach_of h closed error) waits) a s' × DetachesIf (is_done a) h v w
+
+abbrev pub DetachesFor : {R : Type 0} → Option Bool → Relays R → EndpointView → StreamView R → ℕ → Bool → Option ErrorModel → Option Asked → StreamView R
+    → EndpointView → Type 0
+DetachesFor None g v s h closed error answer s' w = (answer ≡ None) × (s' ≡ s) × (w ≡ v)
+DetachesFor (Some waits) g v s h closed error answer s' w = (a : Asked) × (answer ≡ Some a) × AsksDetach g v s h closed error waits a s' w
+
+abbrev pub Detaches : {R : Type 0} → Relays R → EndpointView → StreamView R → ℕ → Bool → Option ErrorModel → Option Asked → StreamView R → EndpointView → Type 0
+Detaches g v s h closed error answer s' w = DetachesFor (awaits v h) g v s h closed error answer s' w
+
+-- ---- what an event asks for
+
+-- the error by which a link ends for what the peer may not do (sections 2.8.15 and 2.8.18)
+abbrev pub fault_error : LinkFault → ErrorModel
+fault_error f = error_of (condition_of f)
+
+-- The link ends for good, with that error; or memory for it was refused, and nothing has changed.
+abbrev pub EndsFor : {R : Type 0} → Relays R → EndpointView → StreamView R → ℕ → LinkFault → Option Asked → StreamView R → EndpointView → Type 0
+EndsFor g v s h f answer s' w =
+    Detaches g v s h true (Some (fault_error f)) answer s' w ⊎ ((answer ≡ Some asked.NoMemory) × (s' ≡ s) × (w ≡ v) × SomeRefused)
+
+-- A link that is attached, or has told a part, renews its credit; a flow is answered where the peer asks for it; a fault ends the link; and a Detach of the
+-- peer's is answered, where this side has sent none. Any other event asks for nothing.
+abbrev pub Responds : {R : Type 0} → Relays R → EndpointView → StreamView R → LinkEvent → ℕ → Option Asked → StreamView R → EndpointView → Type 0
+Responds g v s (event.Attached h life) available answer s' w = SaysFlow g v s h wish.Renew answer s' w
+Responds g v s (event.Part h told) available answer s' w = SaysFlow g v s h wish.Renew answer s' w
+Responds g v s (event.Flow h used) available answer s' w = SaysFlow g v s h (wish.Answer available) answer s' w
+Responds g v s (event.Fault h f) available answer s' w = EndsFor g v s h f answer s' w
+Responds g v s (event.Ended h end closed) available answer s' w = Detaches g v s h closed None answer s' w
+Responds g v s e available answer s' w = (answer ≡ None) × (s' ≡ s) × (w ≡ v)

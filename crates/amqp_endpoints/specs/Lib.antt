@@ -1,0 +1,9 @@
+pub mod Places
+pub mod Reading
+pub mod Endpoint
+pub mod Telling
+pub mod Flowing
+pub mod Sending
+pub mod Settling
+pub mod Attaching
+pub mod History

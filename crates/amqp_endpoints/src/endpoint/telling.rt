@@ -1,0 +1,189 @@
+//! Records that come for a session's links.
+
+ghost use Rattle.std.specs.Prelude.{◌≡◌};
+ghost use Rattle.amqp_endpoints.specs.Places.{PutsPlace, place_at};
+ghost use Rattle.amqp_endpoints.specs.Telling.{OnRecord, TellsAttach, TellsDetach, TellsFlow, TellsLink, TellsPart, is_unanswered, link_by, owing};
+
+use super::SessionEndpoint;
+use crate::event::{LinkEvent, RecordError};
+use crate::place::LinkPlace;
+use crate::reading::{credit_flow, part_head, peer_attach, settled_range};
+use amqp_driver::{NONE, Record, flag, kind};
+use amqp_links::{LinkEnd, TakePartError, TransferError};
+
+/// Whether a Detach of the peer's is to be answered by one.
+fn is_unanswered(end: LinkEnd) -> bool
+    ensures { result ≡ is_unanswered end }
+{
+    matches!(end, LinkEnd::Refused | LinkEnd::ByPeer)
+}
+
+impl SessionEndpoint {
+    /// A record that [`Stream::take`](amqp_driver::Stream::take) wrote is told to the links of its session, and what it is to them is answered. Every record is
+    /// told once, in the order in which they were written. `given` is kept with a delivery that begins by it and is unsettled, and given back with it.
+    ///
+    /// A Disposition settles where it says so, and where it has a terminal state of a receiver: a relay answers that one by a settled one, as
+    /// `Policy::new` of `amqp_events` has it (AMQP 1.0 part 2, section 2.6.12).
+    ///
+    /// # Errors
+    /// Each [`RecordError`] says when. Nothing has changed then, and the record may be told again.
+    ///
+    /// ```
+    /// match endpoint.on_record(record, 0)? {
+    ///     LinkEvent::Part { handle, part } => ..,                  // its payload stands at record.payload_at
+    ///     LinkEvent::Settled { role, first, last } => {
+    ///         while let Some(entry) = endpoint.settled_next(role, first, last) { .. }
+    ///     }
+    ///     _ => {}
+    /// }
+    /// ```
+    pub fn on_record(&mut self, told: &Record, given: u64) -> Result<LinkEvent, RecordError>
+        ensures { OnRecord self.old told.now given result self.new }
+    {
+        if told.session != self.session.0 {
+            return Ok(LinkEvent::Nothing);
+        }
+        if told.kind == kind::DISPOSITION {
+            return Ok(settled_range(told));
+        }
+        match self.link_by(told) {
+            Some(handle) => self.on_link(told, handle, given),
+            None => Ok(LinkEvent::Nothing),
+        }
+    }
+
+    /// The peer's Attach that came before this side's, as a record of [`ATTACH_WANTED`](amqp_driver::kind::ATTACH_WANTED), is told to the link that answers
+    /// it, which [`SessionEndpoint::attach`] has attached under this handle. [`LinkEvent::Nothing`] where no end has the handle.
+    ///
+    /// # Errors
+    /// [`RecordError::OutOfMemory`] where memory was refused. Nothing has changed then, and it may be told again.
+    pub fn on_wanted(&mut self, told: &Record, handle: u32) -> Result<LinkEvent, RecordError>
+        ensures { TellsAttach self.old told.now handle result self.new }
+    {
+        if self.links.end(handle).is_none() {
+            return Ok(LinkEvent::Nothing);
+        }
+        let Ok(()) = self.inputs.put(told.input, handle) else {
+            return Err(RecordError::OutOfMemory);
+        };
+        match self.links.on_attach(handle, peer_attach(told)) {
+            Some(life) => Ok(LinkEvent::Attached { handle, life }),
+            None => Ok(LinkEvent::Nothing),
+        }
+    }
+
+    /// This side's handle of the link of a record: also where this side has detached it.
+    #[inline(always)]
+    fn link_by(&self, told: &Record) -> Option<u32>
+        ensures { result ≡ link_by self.now told.now }
+    {
+        if told.output == NONE {
+            self.inputs.of(told.input)
+        } else {
+            Some(told.output)
+        }
+    }
+
+    /// A record is told to the link that has this handle.
+    #[inline(always)]
+    fn on_link(&mut self, told: &Record, handle: u32, given: u64) -> Result<LinkEvent, RecordError>
+        ensures { TellsLink self.old told.now handle given result self.new }
+    {
+        if told.kind == kind::TRANSFER {
+            self.on_transfer(told, handle, given)
+        } else if told.kind == kind::FLOW {
+            Ok(self.on_flow(told, handle))
+        } else if told.kind == kind::ATTACHED {
+            self.on_wanted(told, handle)
+        } else if told.kind == kind::DETACHED {
+            Ok(self.on_detach(told, handle))
+        } else {
+            Ok(LinkEvent::Nothing)
+        }
+    }
+
+    fn on_flow(&mut self, told: &Record, handle: u32) -> LinkEvent
+        ensures { TellsFlow self.old told.now handle result self.new }
+    {
+        match self.links.on_flow(handle, credit_flow(told)) {
+            None => LinkEvent::Nothing,
+            Some(Ok(used)) => LinkEvent::Flow { handle, used },
+            Some(Err(fault)) => {
+                self.owe(handle);
+                LinkEvent::Fault { handle, fault }
+            }
+        }
+    }
+
+    #[inline(always)]
+    fn on_transfer(
+        &mut self,
+        told: &Record,
+        handle: u32,
+        given: u64,
+    ) -> Result<LinkEvent, RecordError>
+        ensures { TellsPart self.old told.now handle given result self.new }
+    {
+        let place = self.places.get(handle);
+        match self
+            .links
+            .on_transfer(handle, part_head(&place, told), given)
+        {
+            Ok(part) => {
+                if part.part.is_first {
+                    self.places.put(
+                        handle,
+                        LinkPlace {
+                            tag_size: told.tag_size,
+                            tag: told.tag,
+                            ..place
+                        },
+                    );
+                }
+                Ok(LinkEvent::Part { handle, part })
+            }
+            Err(TakePartError::NoReceiver) => Ok(LinkEvent::Nothing),
+            Err(TakePartError::Link(TransferError::NotAttached)) => {
+                Ok(LinkEvent::PassedOver { handle })
+            }
+            Err(TakePartError::Link(TransferError::Fault(fault))) => {
+                self.owe(handle);
+                Ok(LinkEvent::Fault { handle, fault })
+            }
+            Err(TakePartError::NotNext) => Err(RecordError::NotNext),
+            Err(TakePartError::OutOfMemory) => Err(RecordError::OutOfMemory),
+        }
+    }
+
+    fn on_detach(&mut self, told: &Record, handle: u32) -> LinkEvent
+        ensures { TellsDetach self.old told.now handle result self.new }
+    {
+        self.inputs.forget(told.input);
+        let Some(end) = self.links.on_detach(handle) else {
+            return LinkEvent::Nothing;
+        };
+        if is_unanswered(end) {
+            self.owe(handle);
+        }
+        LinkEvent::Ended {
+            handle,
+            end,
+            closed: flag::is_set(told.flags, flag::FOR_GOOD),
+        }
+    }
+
+    /// This side's Detach is to be sent for the link that has this handle.
+    fn owe(&mut self, handle: u32)
+        ensures place { PutsPlace self.old.places handle (owing self.old handle) self.new.places }
+        ensures rest { self.new ≡ record self.old { places = self.new.places } }
+    {
+        let place = self.places.get(handle);
+        self.places.put(
+            handle,
+            LinkPlace {
+                owes: true,
+                ..place
+            },
+        );
+    }
+}
