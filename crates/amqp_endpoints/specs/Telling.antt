@@ -34,9 +34,13 @@ OnPlace Step h p v w = Step v.links w.links × PutsPlace v.places h p w.places �
 abbrev pub owing : EndpointView → ℕ → LinkPlace
 owing v h = record (place_at v.places h) { owes = true }
 
+-- the link that a frame names by the peer's handle, if it names one
+abbrev pub named_by : EndpointView → Record → Option ℕ
+named_by v r = if has r.flags 4096 then map.get v.inputs r.input else None
+
 -- the link of a record: that of this side's handle, or the one that the peer's handle means, where this side has detached it
 abbrev pub link_by : EndpointView → Record → Option ℕ
-link_by v r = if nat_eq r.output none then map.get v.inputs r.input else Some r.output
+link_by v r = if nat_eq r.output none then named_by v r else Some r.output
 
 -- ---- an Attach
 

@@ -169,3 +169,46 @@ fn a_link_is_detached_and_attached_again(rt: HostRuntime) -> Result<(), Fail> {
     drop(server);
     Ok(())
 }
+
+#[test]
+fn a_drain_is_answered(rt: HostRuntime) -> Result<(), Fail> {
+    let (mut client, mut server) = attached(rt.alloc())?;
+    let asked = server
+        .endpoint
+        .say(&mut server.stream, 0, FlowWish::Grant(5));
+    holds(&rt, is_all_done(asked));
+    let asked = server.endpoint.say(&mut server.stream, 0, FlowWish::Drain);
+    holds(&rt, is_all_done(asked));
+    exchange(rt.alloc(), &mut server, &mut client)?;
+    exchange(rt.alloc(), &mut client, &mut server)?;
+    same(
+        &rt,
+        server.events[0],
+        LinkEvent::Flow { handle: 0, used: 5 },
+    );
+    let no_credit = Err(SendFailure::Link(SendPartError::Link(SendError::NoCredit)));
+    same(&rt, client.send(0, b"tone", 0), no_credit);
+    drop(client);
+    drop(server);
+    Ok(())
+}
+
+#[test]
+fn a_delivery_is_aborted(rt: HostRuntime) -> Result<(), Fail> {
+    let (mut client, mut server) = attached(rt.alloc())?;
+    same(&rt, client.send(0, b"tone", flag::MORE), Ok(0));
+    same(&rt, client.endpoint.links().sent(0).is_some(), true);
+    same(&rt, client.send(0, b"ttwo", flag::ABORTED), Ok(0));
+    same(&rt, client.endpoint.links().sent(0).is_some(), false);
+    exchange(rt.alloc(), &mut client, &mut server)?;
+    same(&rt, part(&server), Some((0, true, PartEnd::More, 3)));
+    let last = match server.events[1] {
+        LinkEvent::Part { handle: _, part } => Some((part.part.end, part.settled)),
+        _ => None,
+    };
+    same(&rt, last, Some((PartEnd::Aborted, Some(7))));
+    same(&rt, server.endpoint.left_of_received(), None);
+    drop(client);
+    drop(server);
+    Ok(())
+}

@@ -2,10 +2,11 @@
 
 use crate::both::attached;
 use crate::same::{holds, same};
-use crate::side::exchange;
-use amqp_driver::{Record, flag, kind};
-use amqp_endpoints::LinkEvent;
-use amqp_links::{LinkFault, PartError};
+use crate::side::{exchange, is_all_done, pair};
+use amqp_driver::{NONE, Record, flag, kind};
+use amqp_endpoints::{LinkEvent, SendFailure};
+use amqp_links::{Life, LinkEnd, LinkFault, PartError, RemoveError, SendError, SendPartError};
+use amqp_types::Role;
 use std::test::Fail;
 
 #[test]
@@ -63,6 +64,72 @@ fn a_delivery_past_the_limit_ends_the_link(rt: HostRuntime) -> Result<(), Fail> 
             }
         ),
     );
+    drop(client);
+    drop(server);
+    Ok(())
+}
+
+#[test]
+fn a_flow_of_the_session_is_of_no_link(rt: HostRuntime) -> Result<(), Fail> {
+    let (client, mut server) = attached(rt.alloc())?;
+    let record = Record {
+        kind: kind::FLOW,
+        flags: flag::ECHO,
+        session: 0,
+        ..Record::empty()
+    };
+    same(
+        &rt,
+        server.endpoint.on_record(&record, 0),
+        Ok(LinkEvent::Nothing),
+    );
+    drop(client);
+    drop(server);
+    Ok(())
+}
+
+#[test]
+fn a_link_is_refused(rt: HostRuntime) -> Result<(), Fail> {
+    let (mut client, mut server) = pair(rt.alloc())?;
+    let link = client.attach(rt.alloc(), "q", Role::Sender, None, None)?;
+    exchange(rt.alloc(), &mut client, &mut server)?;
+    // The peer's Attach has no target.
+    let record = Record {
+        kind: kind::ATTACHED,
+        flags: flag::RECEIVER | flag::LINKED,
+        outcome: 1,
+        session: 0,
+        output: link,
+        input: 0,
+        ..Record::empty()
+    };
+    let refused = LinkEvent::Attached {
+        handle: link,
+        life: Life::Refused,
+    };
+    same(&rt, client.endpoint.on_record(&record, 0), Ok(refused));
+    let not_attached = SendFailure::Link(SendPartError::Link(SendError::NotAttached));
+    same(&rt, client.send(link, b"tone", 0), Err(not_attached));
+    let detached = Record {
+        kind: kind::DETACHED,
+        flags: flag::LINKED | flag::FOR_GOOD | flag::WITH_ERROR,
+        output: NONE,
+        ..record
+    };
+    let ended = LinkEvent::Ended {
+        handle: link,
+        end: LinkEnd::Refused,
+        closed: true,
+    };
+    same(&rt, client.endpoint.on_record(&detached, 0), Ok(ended));
+    same(
+        &rt,
+        client.endpoint.remove(link),
+        Err(RemoveError::NotDetached),
+    );
+    let asked = client.endpoint.respond(&mut client.stream, &ended, 0);
+    holds(&rt, is_all_done(asked));
+    same(&rt, client.endpoint.remove(link), Ok(()));
     drop(client);
     drop(server);
     Ok(())

@@ -77,10 +77,13 @@ impl SessionEndpoint {
     fn link_by(&self, told: &Record) -> Option<u32>
         ensures { result ≡ link_by self.now told.now }
     {
-        if told.output == NONE {
+        if told.output != NONE {
+            return Some(told.output);
+        }
+        if flag::is_set(told.flags, flag::LINKED) {
             self.inputs.of(told.input)
         } else {
-            Some(told.output)
+            None
         }
     }
 
