@@ -42,7 +42,7 @@ impl Drop for Side {
 }
 
 /// A side that is to open.
-fn side(alloc: Global) -> Result<Side, Fail> {
+fn new_side(alloc: Global) -> Result<Side, Fail> {
     let open = Open::new(String::from_str(alloc, "me")?);
     match Stream::new(alloc, 0, None, Opening::plain(alloc), KeyHash::Fixed, open) {
         Ok(stream) => Ok(Side {
@@ -58,8 +58,8 @@ fn side(alloc: Global) -> Result<Side, Fail> {
 
 /// Two sides whose session is mapped.
 pub fn pair(alloc: Global) -> Result<(Side, Side), Fail> {
-    let mut client = side(alloc)?;
-    let mut server = side(alloc)?;
+    let mut client = new_side(alloc)?;
+    let mut server = new_side(alloc)?;
     let _ = is_done(client.stream.request(Input::Open));
     let _ = is_done(server.stream.request(Input::Open));
     exchange(alloc, &mut client, &mut server)?;
