@@ -105,10 +105,10 @@ pub fn exchange(alloc: Global, from: &mut Side, to: &mut Side) -> Result<(), Fai
     for _ in 0..16 {
         let rest = &bytes[at.min(bytes.len())..];
         let taken = to.stream.take(0, rest, &mut records);
-        for record in &records[..taken.written] {
+        for record in records.get(..taken.written).unwrap_or(&[]) {
             to.tell(record, rest);
         }
-        at += taken.taken;
+        at = at.saturating_add(taken.taken);
         if taken.status != Status::Again && taken.status != Status::Full {
             break;
         }
@@ -189,7 +189,7 @@ impl Side {
             session: 99,
             link,
             format: 0,
-            payload: (bytes.len() - 1) as u32,
+            payload: u32::try_from(bytes.len().saturating_sub(1)).unwrap_or(0),
             flags: flags | flag::TAGGED,
             tag_size: 1,
         };
