@@ -100,7 +100,7 @@ fn what_is_unsettled_is_given_back_once(rt: HostRuntime) -> Result<(), Fail> {
     same(&rt, next(), entry(1, 7));
     same(&rt, next(), None);
     exchange(rt.alloc(), &mut server, &mut client)?;
-    let settled = client.events[client.count - 1];
+    let settled = client.last();
     same(
         &rt,
         settled,
@@ -141,7 +141,7 @@ fn a_link_is_detached_and_attached_again(rt: HostRuntime) -> Result<(), Fail> {
         end: LinkEnd::ByPeer,
         closed: true,
     };
-    same(&rt, client.events[client.count - 1], ended);
+    same(&rt, client.last(), ended);
     let left = Entry {
         number: 0,
         link: 0,

@@ -118,6 +118,14 @@ pub fn exchange(alloc: Global, from: &mut Side, to: &mut Side) -> Result<(), Fai
 }
 
 impl Side {
+    /// The last event that was told.
+    pub fn last(&self) -> LinkEvent {
+        match self.events.get(self.count.saturating_sub(1)) {
+            Some(event) => *event,
+            None => LinkEvent::Nothing,
+        }
+    }
+
     /// A record is told to the links.
     fn tell(&mut self, record: &Record, input: &[u8]) {
         drop(self.stream.answer(record, input, answers::BEGINS, SESSION));
