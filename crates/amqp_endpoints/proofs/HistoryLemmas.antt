@@ -40,15 +40,15 @@ use Rattle.amqp_endpoints.specs.declared.event.LinkEvent.{LinkEvent}
 use Rattle.amqp_endpoints.specs.declared.event.LinkEvent.TheVariants as event
 use Rattle.amqp_endpoints.specs.declared.event.RecordError.{RecordError}
 use Rattle.amqp_endpoints.specs.declared.event.RecordError.TheVariants as no
-use Rattle.amqp_endpoints.specs.Attaching.{AddsLink, AsksAttach, AttachesBy, AttachesLink, FindsHandle, end_by_role, handle_named}
+use Rattle.amqp_endpoints.specs.Attaching.{AddsLink, AsksAttach, AttachesBy, AttachesUnder, FindsHandle, end_by_role, handle_named}
 use Rattle.amqp_endpoints.specs.Endpoint.{EndpointView, RemovesUnless, SettlesNext, Stands, new_endpoint}
-use Rattle.amqp_endpoints.specs.Flowing.{DetachesFor, DetachesIf, EndsFor, FinishesIf, Responds, SaysFlow, awaits, fault_error, is_done}
+use Rattle.amqp_endpoints.specs.Flowing.{AsksEnd, DetachesFor, DetachesIf, EndsFor, EndsIfOwed, FinishesIf, Responds, SaysFlow, awaits, is_done}
 use Rattle.amqp_endpoints.specs.History.{EndpointCall, EndpointStep, HaveHistories, IsTold}
 use Rattle.amqp_endpoints.specs.History as history
 use Rattle.amqp_endpoints.specs.Places.{place_at}
 use Rattle.amqp_endpoints.specs.Reading.{credit_flow, part_head, peer_attach}
 use Rattle.amqp_endpoints.specs.Sending.{BeginsIf, SendsPart, is_first_of, part_of}
-use Rattle.amqp_endpoints.specs.Telling.{Choose, KeepsTag, OnRecord, OwesIf, TakesBy, TellsAny, TellsAttach, TellsDetach, TellsFlow, TellsLink, TellsOk, TellsPart, is_unanswered, link_by, without_input}
+use Rattle.amqp_endpoints.specs.Telling.{Choose, KeepsTag, OnRecord, OwesIf, TakesBy, TellsAny, TellsAttach, TellsDetach, TellsFlow, TellsLink, TellsOk, TellsPart, is_unanswered, keeps_tag, link_by, without_input}
 
 -- the links go on by calls of their own
 abbrev GoesOn : LinksView → LinksView → Type 0
@@ -99,7 +99,7 @@ keeps false v w r h Step s = s.0
 part_goes : (v w : EndpointView) (r : Record) (h given : ℕ) (result : Result LinkEvent RecordError) → IsTold result → TellsPart v r h given result w
     → GoesOn v.links w.links
 part_goes v w r h given (Ok (event.Part k told)) small s = one v.links w.links (call.Takes h (part_head (place_at v.places h) r) given (Ok told))
-    (small, keeps told.part.is_first v w r h (TakesBy v r h given (Ok told)) s.1)
+    (small, keeps (keeps_tag told.part) v w r h (TakesBy v r h given (Ok told)) s.1)
 part_goes v w r h given (Ok (event.PassedOver k)) small s =
     one v.links w.links (call.Takes h (part_head (place_at v.places h) r) given (Err (take.Link error.NotAttached))) (tt, s.1.0)
 part_goes v w r h given (Ok (event.Fault k f)) small s =
@@ -189,10 +189,10 @@ attaches_by : {R : Type 0} (g : Relays R) (v w : EndpointView) (s s' : StreamVie
 attaches_by g v w s s' a renewal (Err error) result small x = still v w x.2
 attaches_by g v w s s' a renewal (Ok h) result small x = asks_goes g v w s s' _ a renewal h result small x
 
-attached_goes : {R : Type 0} (g : Relays R) (v w : EndpointView) (s s' : StreamView R) (a : AttachModel) (renewal : Option Renewal)
-    (result : Result OutputHandle AttachError) → number_or 0 a.initial_delivery_count < 2 ^ 32 → AttachesLink g v s a renewal result s' w → GoesOn v.links w.links
-attached_goes g v w s s' a renewal result small x =
-    both v.links x.between.links w.links (finds_goes v x.between (handle_named s v a.name) x.found x.finds)
+attached_goes : {R : Type 0} (g : Relays R) (name : List ℕ) (v w : EndpointView) (s s' : StreamView R) (a : AttachModel) (renewal : Option Renewal)
+    (result : Result OutputHandle AttachError) → number_or 0 a.initial_delivery_count < 2 ^ 32 → AttachesUnder g name v s a renewal result s' w → GoesOn v.links w.links
+attached_goes g name v w s s' a renewal result small x =
+    both v.links x.between.links w.links (finds_goes v x.between (handle_named s v name) x.found x.finds)
     (attaches_by g x.between w s s' a renewal x.found result small x.attaches)
 
 -- ---- flows
@@ -233,10 +233,19 @@ detaches_by : {R : Type 0} (g : Relays R) (o : Option Bool) (v w : EndpointView)
 detaches_by g None v w s s' h closed e answer x = still v w x.2
 detaches_by g (Some waits) v w s s' h closed e answer x = detached_goes (is_done x.0) v w h x.2.1
 
+asks_end_goes : {R : Type 0} (g : Relays R) (v w : EndpointView) (s s' : StreamView R) (h : ℕ) (f : LinkFault) (waits : Bool) (a : Asked)
+    → AsksEnd g v s h f waits a s' w → GoesOn v.links w.links
+asks_end_goes g v w s s' h f waits a (inl x) = detached_goes (is_done a) v w h x.1
+asks_end_goes g v w s s' h f waits a (inr x) = still v w x.2
+
+ends_by : {R : Type 0} (g : Relays R) (o : Option Bool) (v w : EndpointView) (s s' : StreamView R) (h : ℕ) (f : LinkFault) (answer : Option Asked)
+    → EndsIfOwed o g v s h f answer s' w → GoesOn v.links w.links
+ends_by g None v w s s' h f answer x = still v w x.2
+ends_by g (Some waits) v w s s' h f answer x = asks_end_goes g v w s s' h f waits x.0 x.2
+
 ends_goes : {R : Type 0} (g : Relays R) (v w : EndpointView) (s s' : StreamView R) (h : ℕ) (f : LinkFault) (answer : Option Asked)
     → EndsFor g v s h f answer s' w → GoesOn v.links w.links
-ends_goes g v w s s' h f answer (inl x) = detaches_by g (awaits v h) v w s s' h true (Some (fault_error f)) answer x
-ends_goes g v w s s' h f answer (inr x) = still v w x.2
+ends_goes g v w s s' h f answer x = ends_by g (awaits v h) v w s s' h f answer x
 
 responds_goes : {R : Type 0} (g : Relays R) (v w : EndpointView) (s s' : StreamView R) (e : LinkEvent) (available : ℕ) (answer : Option Asked)
     → Responds g v s e available answer s' w → GoesOn v.links w.links
@@ -279,7 +288,8 @@ removes_goes false v w h result x = one v.links w.links (call.Removes h result) 
 step_goes : {R : Type 0} (g : Relays R) (v w : EndpointView) (c : EndpointCall) → EndpointStep g v c w → GoesOn v.links w.links
 step_goes g v w (history.Told r given result) x = record_goes v w r given result x.0 x.1 x.2
 step_goes g v w (history.Wanted r h result) x = attach_goes v w r h result x.0 x.1
-step_goes g v w (history.Attaches a renewal result) x = attached_goes g v w x.0 x.1 a renewal result x.2 x.3
+step_goes g v w (history.Attaches a renewal result) x = attached_goes g a.name v w x.0 x.1 a renewal result x.2 x.3
+step_goes g v w (history.AttachesNamed name a renewal result) x = attached_goes g name v w x.0 x.1 a renewal result x.2 x.3
 step_goes g v w (history.Says h wished answer) x = says_goes g v w x.0 x.1 h wished answer x.2
 step_goes g v w (history.Detaches h closed e answer) x = detaches_by g (awaits v h) v w x.0 x.1 h closed e answer x.2
 step_goes g v w (history.Responds e available answer) x = responds_goes g v w x.0 x.1 e available answer x.2

@@ -83,9 +83,14 @@ abbrev pub AttachesBy : {R : Type 0} → Result OutputHandle AttachError → Rel
 AttachesBy (Err error) g m s a renewal result s' w = (result ≡ Err error) × (s' ≡ s) × (w ≡ m)
 AttachesBy (Ok h) g m s a renewal result s' w = AsksAttach g m s (said_attach a h) h (new_end a renewal) result s' w
 
-pub record AttachesLink {R : Type 0} (g : Relays R) (v : EndpointView) (s : StreamView R) (a : AttachModel) (renewal : Option Renewal)
+-- The handle is sought by this name. It is that of the Attach, or another one, under which the link was allotted.
+pub record AttachesUnder {R : Type 0} (g : Relays R) (name : List ℕ) (v : EndpointView) (s : StreamView R) (a : AttachModel) (renewal : Option Renewal)
     (result : Result OutputHandle AttachError) (s' : StreamView R) (w : EndpointView) : Type 0 where
   pub found : Result OutputHandle AttachError
   pub between : EndpointView
-  pub finds : FindsHandle (handle_named s v a.name) v found between
+  pub finds : FindsHandle (handle_named s v name) v found between
   pub attaches : AttachesBy found g between s a renewal result s' w
+
+abbrev pub AttachesLink : {R : Type 0} → Relays R → EndpointView → StreamView R → AttachModel → Option Renewal → Result OutputHandle AttachError → StreamView R
+    → EndpointView → Type 0
+AttachesLink g v s a renewal result s' w = AttachesUnder g a.name v s a renewal result s' w

@@ -113,10 +113,18 @@ Detaches g v s h closed error answer s' w = DetachesFor (awaits v h) g v s h clo
 abbrev pub fault_error : LinkFault → ErrorModel
 fault_error f = error_of (condition_of f)
 
--- The link ends for good, with that error; or memory for it was refused, and nothing has changed.
+-- The Detach is requested, with that error; or memory for it was refused, and nothing has changed.
+abbrev pub AsksEnd : {R : Type 0} → Relays R → EndpointView → StreamView R → ℕ → LinkFault → Bool → Asked → StreamView R → EndpointView → Type 0
+AsksEnd g v s h f waits a s' w =
+    AsksDetach g v s h true (Some (fault_error f)) waits a s' w ⊎ ((a ≡ asked.NoMemory) × (s' ≡ s) × (w ≡ v) × SomeRefused)
+
+abbrev pub EndsIfOwed : {R : Type 0} → Option Bool → Relays R → EndpointView → StreamView R → ℕ → LinkFault → Option Asked → StreamView R → EndpointView → Type 0
+EndsIfOwed None g v s h f answer s' w = (answer ≡ None) × (s' ≡ s) × (w ≡ v)
+EndsIfOwed (Some waits) g v s h f answer s' w = (a : Asked) × (answer ≡ Some a) × AsksEnd g v s h f waits a s' w
+
+-- The link ends for good, where this side has not detached it.
 abbrev pub EndsFor : {R : Type 0} → Relays R → EndpointView → StreamView R → ℕ → LinkFault → Option Asked → StreamView R → EndpointView → Type 0
-EndsFor g v s h f answer s' w =
-    Detaches g v s h true (Some (fault_error f)) answer s' w ⊎ ((answer ≡ Some asked.NoMemory) × (s' ≡ s) × (w ≡ v) × SomeRefused)
+EndsFor g v s h f answer s' w = EndsIfOwed (awaits v h) g v s h f answer s' w
 
 -- A link that is attached, or has told a part, renews its credit; a flow is answered where the peer asks for it; a fault ends the link; and a Detach of the
 -- peer's is answered, where this side has sent none. Any other event asks for nothing.

@@ -24,7 +24,7 @@ use Rattle.amqp_endpoints.specs.declared.endpoint.sending.SentDelivery.{SentDeli
 use Rattle.amqp_endpoints.specs.declared.event.LinkEvent.{LinkEvent}
 use Rattle.amqp_endpoints.specs.declared.event.LinkEvent.TheVariants.{Part}
 use Rattle.amqp_endpoints.specs.declared.event.RecordError.{RecordError}
-use Rattle.amqp_endpoints.specs.Attaching.{AttachesLink}
+use Rattle.amqp_endpoints.specs.Attaching.{AttachesLink, AttachesUnder}
 use Rattle.amqp_endpoints.specs.Endpoint.{EndpointView, LeavesLink, LeavesReceived, LeavesSent, Removes, SettlesNext, new_endpoint}
 use Rattle.amqp_endpoints.specs.Flowing as flowing
 use Rattle.amqp_endpoints.specs.Sending.{SendsDelivery, is_first_of, number_of}
@@ -36,6 +36,7 @@ pub data EndpointCall : Type 0 where
   Told : Record → ℕ → Result LinkEvent RecordError → EndpointCall
   Wanted : Record → ℕ → Result LinkEvent RecordError → EndpointCall
   Attaches : AttachModel → Option Renewal → Result OutputHandle AttachError → EndpointCall
+  AttachesNamed : List ℕ → AttachModel → Option Renewal → Result OutputHandle AttachError → EndpointCall
   Says : ℕ → FlowWish → Option Asked → EndpointCall
   Detaches : ℕ → Bool → Option ErrorModel → Option Asked → EndpointCall
   Responds : LinkEvent → ℕ → Option Asked → EndpointCall
@@ -61,6 +62,8 @@ EndpointStep g v (Told r given result) w = (r.count < 2 ^ 32) × IsTold result �
 EndpointStep g v (Wanted r h result) w = (r.count < 2 ^ 32) × TellsAttach v r h result w
 EndpointStep g v (Attaches a renewal result) w = (s : StreamView _) × (s' : StreamView _)
     × (number_or 0 a.initial_delivery_count < 2 ^ 32) × AttachesLink g v s a renewal result s' w
+EndpointStep g v (AttachesNamed name a renewal result) w = (s : StreamView _) × (s' : StreamView _)
+    × (number_or 0 a.initial_delivery_count < 2 ^ 32) × AttachesUnder g name v s a renewal result s' w
 EndpointStep g v (Says h wish answer) w = (s : StreamView _) × (s' : StreamView _) × flowing.SaysFlow g v s h wish answer s' w
 EndpointStep g v (Detaches h closed error answer) w = (s : StreamView _) × (s' : StreamView _) × flowing.Detaches g v s h closed error answer s' w
 EndpointStep g v (Responds e available answer) w = (s : StreamView _) × (s' : StreamView _) × flowing.Responds g v s e available answer s' w

@@ -1,8 +1,11 @@
 -- Part: other calls.
 -- What a record is to the links of a session, and what each kind of record makes of them (AMQP 1.0 part 2, sections 2.6 and 2.7).
-use Rattle.std.specs.Prelude.{ℕ, ◌≡◌, nat_eq, not, Bool, true, false, Option, Some, None, Result, Ok, Err, if◌then◌else◌}
+use Rattle.std.specs.Prelude.{ℕ, ◌≡◌, ◌&&◌, nat_eq, not, Bool, true, false, Option, Some, None, Result, Ok, Err, if◌then◌else◌}
 use Rattle.std.specs.FinMap as map
 use Rattle.amqp_memory.specs.Refusal.{SomeRefused}
+use Rattle.amqp_credit.specs.declared.part.Part.{Part as PartModel}
+use Rattle.amqp_credit.specs.declared.part.PartEnd.{PartEnd}
+use Rattle.amqp_credit.specs.declared.part.PartEnd.TheVariants.{More, Last, Aborted}
 use Rattle.amqp_driver.specs.declared.record.Record.{Record}
 use Rattle.amqp_driver.specs.Heads.{has}
 use Rattle.amqp_driver.specs.Record.{none}
@@ -71,7 +74,15 @@ TellsFlow v r h e w = ⊥
 abbrev pub TakesBy : EndpointView → Record → ℕ → ℕ → Result ReceivedPart TakePartError → LinksView → LinksView → Type 0
 TakesBy v r h given answer l m = TakesAt (end_at l.ends h) l h (part_head (place_at v.places h) r) given answer m
 
--- the tag of a delivery that begins is kept
+-- the tag of a delivery that begins is kept, where more of it follows
+abbrev pub goes_on : PartEnd → Bool
+goes_on More = true
+goes_on Last = false
+goes_on Aborted = false
+
+abbrev pub keeps_tag : PartModel → Bool
+keeps_tag p = p.is_first && goes_on p.end
+
 abbrev pub with_tag : LinkPlace → Record → LinkPlace
 with_tag p r = record p { tag_size = r.tag_size; tag = r.tag }
 
@@ -80,7 +91,7 @@ KeepsTag true v r h Step w = OnPlace Step h (with_tag (place_at v.places h) r) v
 KeepsTag false v r h Step w = OnLinks Step v w
 
 abbrev pub TellsPart : EndpointView → Record → ℕ → ℕ → Result LinkEvent RecordError → EndpointView → Type 0
-TellsPart v r h given (Ok (Part k told)) w = (k ≡ h) × KeepsTag told.part.is_first v r h (TakesBy v r h given (Ok told)) w
+TellsPart v r h given (Ok (Part k told)) w = (k ≡ h) × KeepsTag (keeps_tag told.part) v r h (TakesBy v r h given (Ok told)) w
 TellsPart v r h given (Ok (PassedOver k)) w = (k ≡ h) × OnLinks (TakesBy v r h given (Err (take.Link error.NotAttached))) v w
 TellsPart v r h given (Ok (Fault k fault)) w = (k ≡ h)
     × OnPlace (TakesBy v r h given (Err (take.Link (error.Fault fault)))) h (owing v h) v w

@@ -1,3 +1,4 @@
+pub mod DueLemmas
 mod SendingLemmas
 mod ReceivingLemmas
 mod ReceivingHistoryLemmas

@@ -1,6 +1,6 @@
 -- Part: other calls.
 -- A flow of a link is said in two halves, where memory for it may still be refused (AMQP 1.0 part 2, sections 2.6.7 and 2.7.4).
-use Rattle.std.specs.Prelude.{ℕ, ◌≡◌, Option, Some, None, option_map}
+use Rattle.std.specs.Prelude.{ℕ, ◌≡◌, Bool, false, Option, Some, None, option_map}
 use Rattle.amqp_credit.specs.declared.receiver.Grant.{Grant}
 use Rattle.amqp_links.specs.declared.end.End.{End}
 use Rattle.amqp_links.specs.declared.end.End.TheVariants.{Sending, Receiving}
@@ -13,7 +13,7 @@ use Rattle.amqp_links.specs.Ends.{end_at}
 use Rattle.amqp_links.specs.Granting.{AnswersAt, GrantsAt, DrainsAt, RenewsAt, of_sender, of_receiver}
 use Rattle.amqp_links.specs.Sending.{SendingView}
 use Rattle.amqp_links.specs.Sending as sending
-use Rattle.amqp_links.specs.Receiving.{ReceivingView, GrantStep, DrainStep, RenewStep}
+use Rattle.amqp_links.specs.Receiving.{ReceivingView, GrantStep, DrainStep, RenewStep, is_renewal_due}
 use Rattle.amqp_links.specs.Receiving as receiving
 use Rattle.amqp_links.specs.Session.{LinksView, PutsEnd}
 
@@ -59,6 +59,12 @@ abbrev pub PreparesFlow : FlowWish → Option End → ℕ → Option PreparedFlo
 PreparesFlow wished None h result = result ≡ None
 PreparesFlow wished (Some (Sending s)) h result = PreparesSender wished s h result
 PreparesFlow wished (Some (Receiving s)) h result = PreparesReceiver wished s h result
+
+-- a flow would renew the credit of the link
+abbrev pub due_at : Option End → Bool
+due_at None = false
+due_at (Some (Sending s)) = false
+due_at (Some (Receiving s)) = is_renewal_due s
 
 -- The end stands as after the flow.
 abbrev pub FinishesFlow : Option End → PreparedFlow → LinksView → LinksView → Type 0

@@ -1,6 +1,6 @@
 -- Part: other calls.
 -- The receiving end of a link, and what each call makes of it (AMQP 1.0 part 2, sections 2.6.3, 2.6.7 and 2.6.14).
-use Rattle.std.specs.Prelude.{ℕ, ◌≡◌, ◌||◌, ◌&&◌, nat_eq, if◌then◌else◌, Bool, true, false, List, Option, Some, None, Result, Ok, Err, codes}
+use Rattle.std.specs.Prelude.{ℕ, ◌≡◌, ◌||◌, ◌&&◌, nat_eq, if◌then◌else◌, Bool, true, false, List, Option, Some, None, Result, Ok, Err, codes, is_some}
 use Rattle.amqp_credit.specs.Assembly.{AssemblyView, new_assembly, PartStep, is_none}
 use Rattle.amqp_credit.specs.Receiver.{ReceiverView, new_receiver, told_by, wanted, taken_off, or_zero, used_up}
 use Rattle.amqp_credit.specs.Receiver as receiver
@@ -69,6 +69,14 @@ RenewsIfAttached life v result w = (result ≡ None) × (w ≡ v)
 
 abbrev pub RenewStep : ReceivingView → Option Grant → ReceivingView → Type 0
 RenewStep v result w = RenewsIfAttached v.life v result w
+
+-- a flow would renew the credit
+abbrev pub due_if_attached : Life → ReceivingView → Bool
+due_if_attached Attached v = is_some (wanted v.credit)
+due_if_attached life v = false
+
+abbrev pub is_renewal_due : ReceivingView → Bool
+is_renewal_due v = due_if_attached v.life v
 
 -- A flow of the sender: so many of the credit were used up; or it says a count past all that was granted, and this side detaches.
 abbrev pub HeardOf : Option ℕ → ReceivingView → Option ℕ → Bool → Result ℕ LinkFault → ReceivingView → Type 0

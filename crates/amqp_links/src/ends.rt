@@ -3,6 +3,7 @@
 ghost use Rattle.std.specs.Prelude.{◌≡◌, ◌≢◌, ◌≤◌, ◌<◌, ℕ, max, [], None, Some, OnOk, OnErr, length, vec_len, vec_capacity};
 ghost use Rattle.amqp_memory.specs.Refusal.{SomeRefused};
 ghost use Rattle.amqp_links.specs.Ends.{end_at, Puts};
+ghost use Rattle.amqp_links.specs.PreparingFlow.{due_at};
 
 use crate::end::End;
 use amqp_memory::more_in_vector;
@@ -41,6 +42,17 @@ impl Ends {
         match self.places.get(handle as usize) {
             Some(place) => *place,
             None => None,
+        }
+    }
+
+    /// Whether the credit of the link that has this handle is to be renewed. The end is looked at where it stands.
+    #[inline(always)]
+    pub(crate) fn is_renewal_due(&self, handle: u32) -> bool
+        ensures { result ≡ due_at (end_at self.now handle) }
+    {
+        match self.places.get(handle as usize) {
+            Some(Some(End::Receiving(link))) => link.is_renewal_due(),
+            _ => false,
         }
     }
 

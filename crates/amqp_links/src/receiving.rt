@@ -1,7 +1,7 @@
 //! The receiving end of a link.
 
 ghost use Rattle.std.specs.Prelude.{◌≡◌};
-ghost use Rattle.amqp_links.specs.Receiving.{new_receiving, AttachStep, GrantStep, DrainStep, RenewStep, HeardStep, AnswerStep};
+ghost use Rattle.amqp_links.specs.Receiving.{new_receiving, AttachStep, GrantStep, DrainStep, RenewStep, HeardStep, AnswerStep, is_renewal_due};
 ghost use Rattle.amqp_links.specs.Receiving.{TakesStep, CountsStep, DetachStep, EndsStep, condition_of};
 ghost use Rattle.amqp_credit.specs.Assembly.{number_in};
 
@@ -128,6 +128,14 @@ impl ReceivingLink {
             return None;
         }
         self.credit.renew()
+    }
+
+    /// Whether [`ReceivingLink::renew`] would answer a flow.
+    #[inline(always)]
+    pub fn is_renewal_due(&self) -> bool
+        ensures { result ≡ is_renewal_due self.now }
+    {
+        self.life == Life::Attached && self.credit.wants_flow().is_some()
     }
 
     /// A flow of the sender has come for this link, with this `delivery-count`, and perhaps with `echo`. It answers how many of the credit the sender used

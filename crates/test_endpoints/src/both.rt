@@ -149,6 +149,8 @@ fn a_link_is_detached_and_attached_again(rt: HostRuntime) -> Result<(), Fail> {
     };
     same(&rt, client.endpoint.left_next(0), Some(left));
     same(&rt, client.endpoint.left_next(0), None);
+    same(&rt, client.endpoint.left_of_sent(), None);
+    same(&rt, client.endpoint.session().0, 0);
     same(&rt, client.endpoint.remove(0), Ok(()));
     exchange(rt.alloc(), &mut client, &mut server)?;
     let answered = LinkEvent::Ended {

@@ -2,7 +2,7 @@
 
 ghost use Rattle.std.specs.Prelude.{◌≡◌, ◌<◌, None, length};
 ghost use Rattle.amqp_links.specs.Ends.{end_at};
-ghost use Rattle.amqp_endpoints.specs.Attaching.{AddsLink, AsksAttach, AttachesLink, FindsHandle, handle_named, new_end, said_attach};
+ghost use Rattle.amqp_endpoints.specs.Attaching.{AddsLink, AsksAttach, AttachesLink, AttachesUnder, FindsHandle, handle_named, new_end, said_attach};
 
 use super::SessionEndpoint;
 use crate::place::LinkPlace;
@@ -79,16 +79,59 @@ impl SessionEndpoint {
         ensures { AttachesLink R.gives self.old stream.old attach renewal result stream.new self.new }
     {
         match self.handle_for(stream, &attach) {
-            Ok(handle) => {
-                let end = new_end(&attach, renewal);
-                let said = said_attach(attach, handle);
-                self.ask_attach(stream, said, handle, end)
-            }
+            Ok(handle) => self.attach_on(stream, handle, attach, renewal),
             Err(error) => {
                 drop(attach);
                 Err(error)
             }
         }
+    }
+
+    /// The same of a link whose handle is allotted to another name than its Attach has. A server needs it whose clients give one name to a sender and a
+    /// receiver, which is two links (AMQP 1.0 part 2, section 2.6.1): it has them under names that [`marked_name`](amqp_driver::marked_name) tells apart, and
+    /// each Attach has the client's name.
+    ///
+    /// # Errors
+    /// Those of [`SessionEndpoint::attach`].
+    ///
+    /// ```
+    /// let name = marked_name(alloc, theirs.role, theirs.name.as_str())?;
+    /// stream.request(Input::AllocateIncomingLink(session, name.clone()?, relay, input));
+    /// let link = endpoint.attach_under(&mut stream, name.as_str(), attach, None)?;
+    /// ```
+    pub fn attach_under<R: LinkRelay>(
+        &mut self,
+        stream: &mut Stream<R>,
+        name: &str,
+        attach: Attach,
+        renewal: Option<Renewal>,
+    ) -> Result<OutputHandle, AttachError>
+        ensures { AttachesUnder R.gives name.now self.old stream.old attach renewal result stream.new self.new }
+    {
+        match self.handle_of(stream, name) {
+            Ok(handle) => self.attach_on(stream, handle, attach, renewal),
+            Err(error) => {
+                drop(attach);
+                Err(error)
+            }
+        }
+    }
+
+    /// The Attach is requested with this handle.
+    fn attach_on<R: LinkRelay>(
+        &mut self,
+        stream: &mut Stream<R>,
+        handle: OutputHandle,
+        attach: Attach,
+        renewal: Option<Renewal>,
+    ) -> Result<OutputHandle, AttachError>
+        requires free { end_at self.old.links.ends handle.0 ≡ None }
+        requires room { handle.0 < length self.old.links.ends }
+        ensures { AsksAttach R.gives self.old stream.old (said_attach attach handle) handle (new_end attach renewal) result stream.new self.new }
+    {
+        let end = new_end(&attach, renewal);
+        let said = said_attach(attach, handle);
+        self.ask_attach(stream, said, handle, end)
     }
 
     /// The handle that is allotted to the name of a link, where it has no end. There is room for one then.
@@ -99,10 +142,18 @@ impl SessionEndpoint {
     ) -> Result<OutputHandle, AttachError>
         ensures { FindsHandle (handle_named stream.now self.old attach.now.name) self.old result self.new }
     {
-        let Some(handle) = stream
-            .engine()
-            .output_handle(self.session, attach.name.as_str())
-        else {
+        self.handle_of(stream, attach.name.as_str())
+    }
+
+    /// The same of any name.
+    fn handle_of<R: LinkRelay>(
+        &mut self,
+        stream: &Stream<R>,
+        name: &str,
+    ) -> Result<OutputHandle, AttachError>
+        ensures { FindsHandle (handle_named stream.now self.old name.now) self.old result self.new }
+    {
+        let Some(handle) = stream.engine().output_handle(self.session, name) else {
             return Err(AttachError::NoLink);
         };
         if self.links.end(handle.0).is_some() {

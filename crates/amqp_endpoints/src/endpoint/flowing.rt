@@ -2,7 +2,8 @@
 
 ghost use Rattle.std.specs.Prelude.{◌≡◌};
 ghost use Rattle.amqp_links.specs.Session.{life_of};
-ghost use Rattle.amqp_endpoints.specs.Flowing.{AsksDetach, AsksFlow, Detaches, EndsFor, Responds, SaysFlow, awaits, is_done, waits_for};
+ghost use Rattle.amqp_links.specs.declared.session.granting.FlowWish.TheVariants.{Renew};
+ghost use Rattle.amqp_endpoints.specs.Flowing.{AsksDetach, AsksEnd, AsksFlow, Detaches, EndsFor, Responds, SaysFlow, awaits, is_done, waits_for};
 
 use super::SessionEndpoint;
 use crate::event::LinkEvent;
@@ -39,6 +40,8 @@ impl SessionEndpoint {
     /// attached, it is a sender's and the wish a receiver's, no credit is to be renewed, or nothing is to be answered.
     ///
     /// The link stands as after the flow where the answer is [`Asked::Done`]. Of any other answer it stands as before, and the call may be made again.
+    ///
+    /// A flow goes out at once. The answer to a drain overtakes transfers that the session holds back for the peer's window: the peer counts them as used up.
     pub fn say<R: LinkRelay>(
         &mut self,
         stream: &mut Stream<R>,
@@ -73,6 +76,9 @@ impl SessionEndpoint {
     /// the link for good (section 2.6.6). `None` where no end has the handle, or this side's Detach was sent before.
     ///
     /// The link stands as after it where the answer is [`Asked::Done`]. Of any other answer it stands as before, and the call may be made again.
+    ///
+    /// Transfers that the session holds back for the peer's window ([`Session::held_back`](amqp_session::Session::held_back)) go out after the Detach, and
+    /// under a handle that is detached. Call it where none of the link is held back: where all that was sent on it is settled, or none of the session is.
     pub fn detach<R: LinkRelay>(
         &mut self,
         stream: &mut Stream<R>,
@@ -139,8 +145,8 @@ impl SessionEndpoint {
         ensures { Responds R.gives self.old stream.old event.now available result stream.new self.new }
     {
         match *event {
-            LinkEvent::Attached { handle, life: _ } => self.say(stream, handle, FlowWish::Renew),
-            LinkEvent::Part { handle, part: _ } => self.say(stream, handle, FlowWish::Renew),
+            LinkEvent::Attached { handle, life: _ } => self.renew(stream, handle),
+            LinkEvent::Part { handle, part: _ } => self.renew(stream, handle),
             LinkEvent::Flow { handle, used: _ } => {
                 self.say(stream, handle, FlowWish::Answer(available))
             }
@@ -160,7 +166,19 @@ impl SessionEndpoint {
         }
     }
 
-    /// Ends a link for a fault.
+    /// A flow that renews a link's credit is sent, if one is due. That is looked at first, since mostly none is.
+    #[tactic(auto, using(amqp_links::proofs::DueLemmas::none_prepared))]
+    fn renew<R: LinkRelay>(&mut self, stream: &mut Stream<R>, handle: u32) -> Option<Asked>
+        ensures { SaysFlow R.gives self.old stream.old handle Renew result stream.new self.new }
+    {
+        if self.links.is_renewal_due(handle) {
+            self.say(stream, handle, FlowWish::Renew)
+        } else {
+            None
+        }
+    }
+
+    /// Ends a link for a fault, where this side has not detached it. The text of the error is made then alone.
     fn end_for<R: LinkRelay>(
         &mut self,
         stream: &mut Stream<R>,
@@ -169,9 +187,25 @@ impl SessionEndpoint {
     ) -> Option<Asked>
         ensures { EndsFor R.gives self.old stream.old handle fault result stream.new self.new }
     {
+        match self.awaits(handle) {
+            Some(waits) => Some(self.ask_end(stream, handle, fault, waits)),
+            None => None,
+        }
+    }
+
+    /// The Detach that ends a link for a fault is requested, with the condition of the fault.
+    fn ask_end<R: LinkRelay>(
+        &mut self,
+        stream: &mut Stream<R>,
+        handle: u32,
+        fault: LinkFault,
+        waits: bool,
+    ) -> Asked
+        ensures { AsksEnd R.gives self.old stream.old handle fault waits result stream.new self.new }
+    {
         match fault_error(self.alloc, fault) {
-            Ok(error) => self.detach(stream, handle, true, Some(error)),
-            Err(_) => Some(Asked::NoMemory),
+            Ok(error) => self.ask_detach(stream, handle, true, Some(error), waits),
+            Err(_) => Asked::NoMemory,
         }
     }
 }

@@ -2,20 +2,27 @@
 
 ghost use Rattle.std.specs.Prelude.{◌≡◌};
 ghost use Rattle.amqp_endpoints.specs.Places.{PutsPlace, place_at};
-ghost use Rattle.amqp_endpoints.specs.Telling.{OnRecord, TellsAttach, TellsDetach, TellsFlow, TellsLink, TellsPart, is_unanswered, link_by, owing};
+ghost use Rattle.amqp_endpoints.specs.Telling.{OnRecord, TellsAttach, TellsDetach, TellsFlow, TellsLink, TellsPart, is_unanswered, keeps_tag, link_by, owing};
 
 use super::SessionEndpoint;
 use crate::event::{LinkEvent, RecordError};
 use crate::place::LinkPlace;
 use crate::reading::{credit_flow, part_head, peer_attach, settled_range};
 use amqp_driver::{NONE, Record, flag, kind};
-use amqp_links::{LinkEnd, TakePartError, TransferError};
+use amqp_links::{LinkEnd, Part, PartEnd, TakePartError, TransferError};
 
 /// Whether a Detach of the peer's is to be answered by one.
 fn is_unanswered(end: LinkEnd) -> bool
     ensures { result ≡ is_unanswered end }
 {
     matches!(end, LinkEnd::Refused | LinkEnd::ByPeer)
+}
+
+/// Whether the tag of a delivery is kept: where it begins, and more of it follows.
+fn keeps_tag(part: Part) -> bool
+    ensures { result ≡ keeps_tag part }
+{
+    part.is_first && matches!(part.end, PartEnd::More)
 }
 
 impl SessionEndpoint {
@@ -133,7 +140,7 @@ impl SessionEndpoint {
             .on_transfer(handle, part_head(&place, told), given)
         {
             Ok(part) => {
-                if part.part.is_first {
+                if keeps_tag(part.part) {
                     self.places.put(
                         handle,
                         LinkPlace {

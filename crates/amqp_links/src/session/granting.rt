@@ -3,7 +3,7 @@
 ghost use Rattle.std.specs.Prelude.{◌≡◌};
 ghost use Rattle.amqp_links.specs.Ends.{end_at};
 ghost use Rattle.amqp_links.specs.Granting.{FlowsAt, AnswersAt, GrantsAt, DrainsAt, RenewsAt, of_sender, of_receiver};
-ghost use Rattle.amqp_links.specs.PreparingFlow.{FinishesFlow, PreparesFlow, PreparesReceiver, PreparesSender, SaysAt, WishStep};
+ghost use Rattle.amqp_links.specs.PreparingFlow.{FinishesFlow, PreparesFlow, PreparesReceiver, PreparesSender, SaysAt, WishStep, due_at};
 
 use super::SessionLinks;
 use crate::end::End;
@@ -133,6 +133,15 @@ impl SessionLinks {
             End::Sending(link) => prepare_sender(link, handle, wish),
             End::Receiving(link) => prepare_receiver(link, handle, wish),
         }
+    }
+
+    /// Whether a flow is due that renews the credit of the link that has this handle: whether [`SessionLinks::renew`] would answer one, and
+    /// [`SessionLinks::prepare_flow`] for [`FlowWish::Renew`]. It costs less than to ask these.
+    #[inline(always)]
+    pub fn is_renewal_due(&self, handle: u32) -> bool
+        ensures { result ≡ due_at (end_at self.now.ends handle) }
+    {
+        self.ends.is_renewal_due(handle)
     }
 
     /// The flow that was prepared is on its way: its link stands as after it. Where no end has the handle any more nothing changes.
