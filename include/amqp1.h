@@ -4,7 +4,8 @@
    A program makes an engine with its Open (amqp1_start, amqp1_start_client, amqp1_start_server), asks for what it wants (amqp1_open, amqp1_begin,
    amqp1_link, amqp1_attach ..), hands over the bytes that come (amqp1_take), reads a record of each header, SASL frame and frame, has those
    answered that ask for it (amqp1_answer), sends deliveries (amqp1_send; amqp1_cut where one is longer than a frame), writes the bytes that wait
-   (amqp1_output) to its socket, and tells the time (amqp1_tick).
+   (amqp1_output) to its socket, and tells the time (amqp1_tick). Links with credit, and settlement, stand beside (amqp1_sender, amqp1_receiver,
+   amqp1_link_event, amqp1_link_send).
 
        amqp1 engine = AMQP1_EMPTY;
        amqp1_record records[64];
@@ -49,6 +50,7 @@
 #include "amqp1/records.h"
 #include "amqp1/exports.h"
 #include "amqp1/calls.h"
+#include "amqp1/links.h"
 #include "amqp1/read.h"
 #include "amqp1/trace.h"
 #include "amqp1/write.h"

@@ -560,7 +560,8 @@ AMQP1_FUNCTION const char *amqp1_status_name(int32_t status)
     static const char *const names[] = { "DONE",      "REFUSED",   "NO_MEMORY", "TOO_SMALL",    "BAD_ARGUMENT",
                                          "NO_ENGINE", "unknown",   "FULL",      "BAD_SIZE",     "SHORT",
                                          "AGAIN",     "WAITS",     "OVER",      "TOO_LARGE",    "NOTHING",
-                                         "LOST",      "BROKEN",    "NOT_RELEASED", "NOT_FORGOTTEN" };
+                                         "LOST",      "BROKEN",    "NOT_RELEASED", "NOT_FORGOTTEN", "NOT_DETACHED",
+                                         "UNSETTLED", "NOT_NEXT",  "NO_LINK",   "IN_USE" };
     return status >= 0 && (size_t)status < sizeof names / sizeof *names ? names[status] : "unknown";
 }
 

@@ -34,11 +34,17 @@ enum amqp1_status {
     AMQP1_WAITS = 11,       /* of amqp1_take: amqp1_login, amqp1_challenge or amqp1_respond comes first */
     AMQP1_OVER = 12,        /* of amqp1_take and amqp1_send: the connection is over, and nothing is taken any more */
     AMQP1_TOO_LARGE = 13,   /* of amqp1_take: the SASL frame to send would have more than 512 bytes (part 5, section 5.3.1) */
-    AMQP1_NOTHING = 14,     /* of amqp1_answer: the record asks for no answer, or for none that was named, or none is due. Nothing changed */
+    AMQP1_NOTHING = 14,     /* of amqp1_answer: the record asks for no answer, or for none that was named, or none is due. Nothing changed.
+                              Of the calls of links: there is nothing to send, or to tell */
     AMQP1_LOST = 15,        /* of an answer to a Begin: memory was refused once the engine had begun. Its number is used, and the peer has no answer */
     AMQP1_BROKEN = 16,      /* of an answer to a Begin: it waits to be sent, and memory was refused for the peer's. Close the connection */
     AMQP1_NOT_RELEASED = 17, /* of an answer to an End: the session's channel was not given back; amqp1_refusal tells why */
-    AMQP1_NOT_FORGOTTEN = 18 /* of an answer to an End: the channel was given back, and the session not let go; amqp1_refusal tells why */
+    AMQP1_NOT_FORGOTTEN = 18, /* of an answer to an End: the channel was given back, and the session not let go; amqp1_refusal tells why */
+    AMQP1_NOT_DETACHED = 19,  /* of amqp1_link_remove: the peer's Detach has not come, or this side's is still to be sent */
+    AMQP1_UNSETTLED = 20,     /* of amqp1_link_remove: deliveries of the link are unsettled */
+    AMQP1_NOT_NEXT = 21,      /* of amqp1_link_event: a delivery's number does not lie after each one that is unsettled, by less than 2^31 */
+    AMQP1_NO_LINK = 22,       /* of amqp1_link_attach: no handle is allotted to the name; of amqp1_link_remove: no end has the handle */
+    AMQP1_IN_USE = 23         /* of amqp1_link_attach: the handle has an end already */
 };
 
 /* What a frame was. A record of a kind that is not named here is of a later version: pass over it. */

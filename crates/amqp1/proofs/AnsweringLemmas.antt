@@ -1,21 +1,18 @@
 -- What becomes of an answer: the status and the last refusal are by what the stream says of it.
-use Rattle.std.proofs.Common.{◌≡◌, ◌⊎◌, inl, inr, ℕ, List, Option, Some, None, Result, Ok, Err, ap, refl, subst, sym, ◌∙◌}
+use Rattle.std.proofs.Common.{◌≡◌, ℕ, List, None, Result, Ok, Err, ap, subst, sym, ◌∙◌}
 use Rattle.amqp_values.specs.declared.error.ReadError.{ReadError}
 use Rattle.amqp_values.specs.declared.error.ReadError.TheVariants.{Malformed, OutOfMemory}
 use Rattle.amqp_types.specs.Begin.{BeginModel}
-use Rattle.amqp_types.specs.Error.{ErrorModel}
 use Rattle.amqp_types.specs.Performatives.{IsPerformative}
 use Rattle.amqp_types.specs.declared.performatives.Performative.TheVariants as its
 use Rattle.amqp_types.specs.declared.states.ConnectionState.{ConnectionState}
-use Rattle.amqp_session.specs.Relay.{Relays}
 use Rattle.amqp_session.specs.Settings.{SettingsModel}
 use Rattle.amqp_driver.specs.declared.plain.PlainRelay.{PlainRelay}
 use Rattle.amqp_driver.specs.Stream.{StreamView}
 use Rattle.amqp1.specs.declared.status.Status.{Status}
-use Rattle.amqp1.specs.declared.status.Status.TheVariants as status
-use Rattle.amqp1.specs.Answering.{BeginsBy, BeginsOne, EndsBy, EndsOne, IfNone, NamesSettings}
+use Rattle.amqp1.specs.Answering.{IfNone, NamesSettings}
 use Rattle.amqp1.specs.ClientView.{ClientView}
-use Rattle.amqp1.specs.Reading.{IsErrorIfAny, Reads, ReadsOne}
+use Rattle.amqp1.specs.Reading.{Reads, ReadsOne}
 use Rattle.amqp1.specs.Refused.{RefusedModel}
 
 -- the stream gave an answer, and what became of it was kept

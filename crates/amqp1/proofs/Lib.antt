@@ -4,6 +4,7 @@ pub mod ClientLemmas
 pub mod LinkingLemmas
 pub mod LoginLemmas
 pub mod NamesLemmas
+pub mod OccupantLemmas
 pub mod PlaceLemmas
 pub mod ReadingLemmas
 pub mod RequestLemmas

@@ -1,5 +1,5 @@
 -- The link that bytes name, where parts of them were read.
-use Rattle.std.proofs.Common.{◌≡◌, ℕ, List, Option, Some, None, refl, ap, sym, subst, ◌∙◌}
+use Rattle.std.proofs.Common.{◌≡◌, ℕ, List, Option, Some, None, sym, subst}
 use Rattle.std.specs.Int.{w32}
 use Rattle.amqp_values.specs.Reading.{number_at}
 use Rattle.amqp1.specs.declared.linking.LinkAsked.{LinkAsked}

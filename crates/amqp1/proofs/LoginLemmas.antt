@@ -1,5 +1,5 @@
 -- Pieces that are read one after the other, by their heads.
-use Rattle.std.proofs.Common.{◌≡◌, ℕ, zero, suc, ◌+◌, ◌<◌, ◌≤◌, ◌&&◌, List, [], ◌∷◌, ◌++◌, Bool, true, false, Option, Some, None, get_or, ltb, eqb, nat_lt, nat_eq, cond, take, refl, sym, subst, ap, ◌∙◌, length, drop, arith, append_assoc}
+use Rattle.std.proofs.Common.{◌≡◌, ℕ, zero, suc, ◌+◌, ◌<◌, ◌≤◌, ◌&&◌, List, [], ◌∷◌, ◌++◌, Bool, true, false, Option, Some, None, get_or, ltb, eqb, nat_lt, nat_eq, cond, take, refl, sym, ap, ◌∙◌, length, drop, arith, append_assoc}
 use Rattle.std.proofs.lemmas.List.{append-nil, length-take-le}
 use Rattle.std.proofs.Math.ListN.{drop_of_length-le}
 use Rattle.std.proofs.lemmas.Bool.Decides.{nat_tests}
@@ -11,9 +11,9 @@ use Rattle.std.specs.Str.{IsUtf8, is_utf8}
 use Rattle.std.proofs.lemmas.Str.{is_utf8-from_IsUtf8, IsUtf8-from_is_utf8, IsUtf8-from_ascii}
 use Rattle.amqp_values.specs.declared.error.ReadError.{ReadError}
 use Rattle.amqp_values.specs.declared.error.ReadError.TheVariants.{Malformed, OutOfMemory}
-use Rattle.amqp_values.specs.Reading.{◌>>=◌, Answers, is_empty}
+use Rattle.amqp_values.specs.Reading.{◌>>=◌, Answers}
 use Rattle.amqp1.specs.declared.logins.LoginHead.{LoginHead}
-use Rattle.amqp1.specs.Logins.{all_in, front_in, symbol_in, text_in, no_size}
+use Rattle.amqp1.specs.Logins.{all_in, front_in, text_in, no_size}
 
 first_of : Option (List ℕ × List ℕ) → List ℕ
 first_of None = []

@@ -17,7 +17,7 @@ use Rattle.fe2o3_amqp.specs.Refusals.{step_answer}
 use Rattle.fe2o3_amqp.specs.Transcript.{name_of}
 use Rattle.amqp1.specs.Names.{IsAnsweredBy, IsCalled, is_engines, is_drivers}
 use Rattle.amqp1.specs.Inner.NameTables.{answer_at, answer_by, closing_at, ending_at, name_at, step_name_at, frame_name_at, state_name_at, inner_name_at}
-use Rattle.amqp1.specs.Inner.NameTables.{alloc_name_at, begun_name_at, session_name_at, link_name_at, own_name_at, opening_name_at}
+use Rattle.amqp1.specs.Inner.NameTables.{alloc_name_at, begun_name_at, session_name_at, link_name_at, own_name_at, opening_name_at, sending_name_at}
 
 named : (e : StepError) → name_at (refusal_number e) ≡ Some (name_of e)
 named no.OutputWaiting = refl
@@ -185,13 +185,18 @@ opening_none n h =
     (past (nat_eq n 104) _ (no_drivers n 104 h refl) (past (nat_eq n 105) _ (no_drivers n 105 h refl) (past (nat_eq n 106) _ (no_drivers n 106 h refl)
     (past (nat_eq n 107) _ (no_drivers n 107 h refl) (past (nat_eq n 108) _ (no_drivers n 108 h refl) refl)))))))
 
+sending_none : (n : ℕ) → is_drivers n ≡ false → sending_name_at n ≡ None
+sending_none n h =
+    past (nat_eq n 111) _ (no_drivers n 111 h refl) (past (nat_eq n 112) _ (no_drivers n 112 h refl) (past (nat_eq n 113) _ (no_drivers n 113 h refl)
+    (past (nat_eq n 114) _ (no_drivers n 114 h refl) (past (nat_eq n 115) _ (no_drivers n 115 h refl) (past (nat_eq n 116) _ (no_drivers n 116 h refl) refl)))))
+
 none_named : (n : ℕ) → is_engines n ≡ false → is_drivers n ≡ false → name_at n ≡ None
 none_named n h d =
     either (nat_eq (n / 10) 0) (step_none n h) (either (nat_eq (n / 10) 1) (frame_none n h) (either (nat_eq (n / 10) 2) (state_none n h)
     (either (nat_eq (n / 10) 3) (inner_none n h) (either (nat_eq (n / 10) 4) (alloc_none n h) (either (nat_eq (n / 10) 5) (begun_none n h)
     (either (nat_eq (n / 10) 6) (session_none n h) (either (nat_eq (n / 10) 7) (session_none n h)
     (either (nat_eq (n / 10) 8) (link_none n h) (either (nat_eq (n / 10) 9) (own_none n d)
-    (either (nat_eq (n / 10) 10) (opening_none n d) refl))))))))))
+    (either (nat_eq (n / 10) 10) (opening_none n d) (sending_none n d)))))))))))
 
 closing_none : (n : ℕ) → is_engines n ≡ false → closing_at n ≡ None
 closing_none n h =
@@ -222,6 +227,12 @@ is_called n name e = record {
   not_amqp = λ h. e ∙ ap name_at h;
   malformed_sasl = λ h. e ∙ ap name_at h;
   unexpected_sasl = λ h. e ∙ ap name_at h;
+  no_sender = λ h. e ∙ ap name_at h;
+  not_attached = λ h. e ∙ ap name_at h;
+  too_large = λ h. e ∙ ap name_at h;
+  none_under_way = λ h. e ∙ ap name_at h;
+  no_credit = λ h. e ∙ ap name_at h;
+  not_next = λ h. e ∙ ap name_at h;
   other = λ h d. e ∙ none_named n h d;
 }
 

@@ -1,6 +1,6 @@
 -- Part: other calls; inner.
 -- The answers to what the peer begins and ends: to a record, and to a Begin and an End by a request.
-use Rattle.std.specs.Prelude.{◌≡◌, ◌⊎◌, [], ℕ, List, length, take, drop, Option, Some, None, Result, Ok, Err, if◌then◌else◌, nat_lt}
+use Rattle.std.specs.Prelude.{◌≡◌, ◌⊎◌, ℕ, List, length, take, drop, Option, Some, None, Result, Ok, Err, if◌then◌else◌, nat_lt}
 use Rattle.std.specs.Int.{w32, from_be_bytes}
 use Rattle.amqp_values.specs.Reading.{◌>>=◌, number_at}
 use Rattle.amqp_values.specs.declared.error.ReadError.{ReadError}
@@ -11,13 +11,11 @@ use Rattle.amqp_types.specs.Performatives.{IsPerformative}
 use Rattle.amqp_types.specs.declared.performatives.Performative.TheVariants as its
 use Rattle.amqp_session.specs.Relay.{Relays}
 use Rattle.amqp_session.specs.Settings.{SettingsModel}
-use Rattle.amqp_connection.specs.declared.numbers.SessionNo.{SessionNo}
 use Rattle.amqp_driver.specs.declared.answered.BeginAnswer.{BeginAnswer}
 use Rattle.amqp_driver.specs.declared.answered.EndAnswer.{EndAnswer}
 use Rattle.amqp_driver.specs.declared.answered.RecordAnswer.{RecordAnswer}
 use Rattle.amqp_driver.specs.declared.plain.PlainRelay.{PlainRelay}
 use Rattle.amqp_driver.specs.declared.record.Record.{Record}
-use Rattle.amqp_driver.specs.Stream.{StreamView}
 use Rattle.amqp_driver.specs.StreamTicking.{BeginsStream, EndsStream}
 use Rattle.amqp_driver.specs.Wanted.{AnswersRecord, LetsGoStream}
 use Rattle.amqp1.specs.declared.status.Status.{Status}

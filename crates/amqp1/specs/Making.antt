@@ -13,7 +13,7 @@ use Rattle.amqp_session.specs.declared.keys.KeyHash.{KeyHash}
 use Rattle.amqp_engine.specs.Legal.{Legal}
 use Rattle.amqp_sasl.specs.Opening.{OpeningView}
 use Rattle.amqp_driver.specs.declared.plain.PlainRelay.{PlainRelay}
-use Rattle.amqp_driver.specs.Stream.{StreamView, Begun}
+use Rattle.amqp_driver.specs.Stream.{Begun}
 use Rattle.amqp1.specs.declared.how.How.{How}
 use Rattle.amqp1.specs.declared.logins.LoginHead.{LoginHead}
 use Rattle.amqp1.specs.declared.status.Status.{Status}

@@ -24,12 +24,12 @@ is_engines n =
     is_within 61 70 n ||
     is_within 81 85 n
 
--- those of transfers that the driver does not send, and of streams that are not opened
+-- those of transfers that the driver does not send, of streams that are not opened, and of transfers that a link does not send
 abbrev pub is_drivers : ℕ → Bool
-is_drivers n = is_within 91 92 n || is_within 101 108 n
+is_drivers n = is_within 91 92 n || is_within 101 108 n || is_within 111 116 n
 
--- The name of each refusal of the engine that has the number; of the two of the driver, and of the eight of a stream that is not opened; and no
--- other number has one.
+-- The name of each refusal of the engine that has the number; of the two of the driver, of the eight of a stream that is not opened, and of the six of a link;
+-- and no other number has one.
 pub record IsCalled (n : ℕ) (name : Option (List ℕ)) : Type 0 where
   pub engine : (e : StepError) → refusal_number e ≡ n → name ≡ Some (name_of e)
   pub too_long : n ≡ 91 → name ≡ Some (codes "PayloadTooLong")
@@ -42,6 +42,12 @@ pub record IsCalled (n : ℕ) (name : Option (List ℕ)) : Type 0 where
   pub not_amqp : n ≡ 106 → name ≡ Some (codes "NotAmqp")
   pub malformed_sasl : n ≡ 107 → name ≡ Some (codes "MalformedSasl")
   pub unexpected_sasl : n ≡ 108 → name ≡ Some (codes "UnexpectedSasl")
+  pub no_sender : n ≡ 111 → name ≡ Some (codes "NoSender")
+  pub not_attached : n ≡ 112 → name ≡ Some (codes "NotAttached")
+  pub too_large : n ≡ 113 → name ≡ Some (codes "TooLarge")
+  pub none_under_way : n ≡ 114 → name ≡ Some (codes "NoneUnderWay")
+  pub no_credit : n ≡ 115 → name ≡ Some (codes "NoCredit")
+  pub not_next : n ≡ 116 → name ≡ Some (codes "NotNext")
   pub other : is_engines n ≡ false → is_drivers n ≡ false → name ≡ None
 
 -- What answers a received frame that was refused so, where this side's Close did not go out; nothing answers any other.

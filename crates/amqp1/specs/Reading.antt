@@ -43,6 +43,11 @@ abbrev pub IsErrorIfAny : List ℕ → Option ErrorModel → Type 0
 IsErrorIfAny bytes None = bytes ≡ 0 ∷ []
 IsErrorIfAny bytes (Some e) = (text : List ℕ) × (bytes ≡ 1 ∷ text) × (error_at text ≡ Some (e, []))
 
+-- no bytes say that there is no error; and any others are one, wholly
+abbrev pub IsErrorOrNone : List ℕ → Option ErrorModel → Type 0
+IsErrorOrNone text None = text ≡ []
+IsErrorOrNone text (Some e) = error_at text ≡ Some (e, [])
+
 -- these bytes are read as an error, and nothing follows
 abbrev pub IsSomeError : List ℕ → Result (Option ErrorModel) ReadError → Type 0
 IsSomeError bytes (Ok None) = ⊥

@@ -33,6 +33,11 @@ status_number status.Lost = 15
 status_number status.Broken = 16
 status_number status.NotReleased = 17
 status_number status.NotForgotten = 18
+status_number status.NotDetached = 19
+status_number status.Unsettled = 20
+status_number status.NotNext = 21
+status_number status.NoLink = 22
+status_number status.InUse = 23
 
 -- of a call of the driver that takes many
 abbrev pub taken_status : DriverStatus → Status

@@ -14,6 +14,7 @@ ghost use Rattle.amqp1.specs.Making.{BeginsAs, Makes, is_zero, unread_of};
 ghost use Rattle.amqp1.specs.Client.{Calls, Performs, IfEmpty};
 
 mod answering;
+mod links;
 mod logging_in;
 mod requesting;
 mod telling;

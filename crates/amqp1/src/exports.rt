@@ -8,7 +8,9 @@ ghost use Rattle.amqp1.specs.Ticking.{due_number, next_number, ticked_of};
 
 use crate::client::Client;
 use crate::how::How;
+use crate::key::hash_of;
 use crate::logins::LoginHead;
+use crate::occupant::Occupant;
 use crate::place::Place;
 use crate::status::Status;
 use amqp_driver::{Cut, PlainRelay, Record, Sent, TransferHead};
@@ -80,18 +82,22 @@ pub extern "C" fn amqp1_new(
         return Status::BadArgument.number();
     }
     match Client::new(alloc, how, open_bytes, logins, bytes) {
-        Ok(client) => put(alloc, place, client),
+        Ok(client) => put(
+            alloc,
+            place,
+            Occupant::new(alloc, client, hash_of(&how.key)),
+        ),
         Err(status) => status,
     }
 }
 
-/// Puts a client into a place where nothing lies, or lets it go where there is no memory for its box.
-fn put(alloc: Global, place: &mut Place, client: Client) -> i32
+/// Puts an occupant into a place where nothing lies, or lets it go where there is no memory for its box.
+fn put(alloc: Global, place: &mut Place, occupant: Occupant) -> i32
     requires { place.old.full ≡ 0 }
-    ensures { (Is result status.Done × (place.new.full ≡ 1) × (place.new.slot.held ≡ Some client))
+    ensures { (Is result status.Done × (place.new.full ≡ 1) × (place.new.slot.held ≡ Some occupant))
         ⊎ (Is result status.NoMemory × (place.new.full ≡ 0) × SomeRefused) }
 {
-    match boxed(alloc, client) {
+    match boxed(alloc, occupant) {
         Ok(boxed) => {
             *place = Place::of(boxed);
             Status::Done.number()
@@ -120,12 +126,12 @@ pub extern "C" fn amqp1_call(
         result written.new place.new.slot.held output.new }
 {
     let old = std::mem::replace(place, Place::empty(alloc));
-    match old.into_client() {
+    match old.into_occupant() {
         None => Status::NoEngine.number(),
-        Some(mut client) => {
-            let (status, length) = client.call(operation, input, output);
+        Some(mut occupant) => {
+            let (status, length) = occupant.call(operation, input, output);
             *written = length;
-            *place = Place::of(client);
+            *place = Place::of(occupant);
             status
         }
     }
@@ -149,14 +155,14 @@ pub extern "C" fn amqp1_take(
         result answer.new place.new.slot.held records.new }
 {
     let old = std::mem::replace(place, Place::empty(alloc));
-    match old.into_client() {
+    match old.into_occupant() {
         None => Status::NoEngine.number(),
-        Some(mut client) => {
-            let took = client.take(now, input, records);
+        Some(mut occupant) => {
+            let took = occupant.take(now, input, records);
             answer.taken = took.taken;
             answer.written = took.written;
             answer.wanted = took.wanted;
-            *place = Place::of(client);
+            *place = Place::of(occupant);
             Status::of_driver(took.status).number()
         }
     }
@@ -178,11 +184,11 @@ pub extern "C" fn amqp1_answer(
         × AnswersThere ⟦<PlainRelay as LinkRelay>⟧.gives place.old.slot.held flags number «record».now input.now result place.new.slot.held }
 {
     let old = std::mem::replace(place, Place::empty(alloc));
-    match old.into_client() {
+    match old.into_occupant() {
         None => Status::NoEngine.number(),
-        Some(mut client) => {
-            let status = client.answer(record, input, flags, number);
-            *place = Place::of(client);
+        Some(mut occupant) => {
+            let status = occupant.answer(record, input, flags, number);
+            *place = Place::of(occupant);
             status.number()
         }
     }
@@ -195,11 +201,11 @@ pub extern "C" fn amqp1_heard(alloc: Global, place: &mut Place, now: u64) -> i32
     ensures heard { 0 < place.old.full → (0 < place.new.full) × HearsThere place.old.slot.held now result place.new.slot.held }
 {
     let old = std::mem::replace(place, Place::empty(alloc));
-    match old.into_client() {
+    match old.into_occupant() {
         None => Status::NoEngine.number(),
-        Some(mut client) => {
-            client.heard(now);
-            *place = Place::of(client);
+        Some(mut occupant) => {
+            occupant.heard(now);
+            *place = Place::of(occupant);
             Status::Done.number()
         }
     }
@@ -248,12 +254,12 @@ pub extern "C" fn amqp1_tick(alloc: Global, place: &mut Place, now: u64, answer:
         × TicksThere ⟦<PlainRelay as LinkRelay>⟧.gives place.old.slot.held now result answer.new place.new.slot.held }
 {
     let old = std::mem::replace(place, Place::empty(alloc));
-    match old.into_client() {
+    match old.into_occupant() {
         None => Status::NoEngine.number(),
-        Some(mut client) => {
-            let tick = client.tick(now);
+        Some(mut occupant) => {
+            let tick = occupant.tick(now);
             *answer = ticked_of(tick);
-            *place = Place::of(client);
+            *place = Place::of(occupant);
             Status::Done.number()
         }
     }
@@ -277,13 +283,13 @@ pub extern "C" fn amqp1_send(
         result answer.new place.new.slot.held sent.new }
 {
     let old = std::mem::replace(place, Place::empty(alloc));
-    match old.into_client() {
+    match old.into_occupant() {
         None => Status::NoEngine.number(),
-        Some(mut client) => {
-            let went = client.send(heads, bytes, sent);
+        Some(mut occupant) => {
+            let went = occupant.post(heads, bytes, sent);
             answer.taken = went.taken;
             answer.used = went.used;
-            *place = Place::of(client);
+            *place = Place::of(occupant);
             Status::of_driver(went.status).number()
         }
     }
@@ -305,11 +311,11 @@ pub extern "C" fn amqp1_cut(
         × CutsThere place.old.slot.held head.now bytes.now answer.old result answer.new place.new.slot.held }
 {
     let old = std::mem::replace(place, Place::empty(alloc));
-    match old.into_client() {
+    match old.into_occupant() {
         None => Status::NoEngine.number(),
-        Some(client) => {
-            let cut = client.cut(head, bytes);
-            *place = Place::of(client);
+        Some(occupant) => {
+            let cut = occupant.cut(head, bytes);
+            *place = Place::of(occupant);
             let Ok(cut) = cut else {
                 return Status::NoMemory.number();
             };

@@ -1,9 +1,13 @@
-//! The library for C: an engine in a place that the caller keeps, and ten functions over it.
+//! The library for C: an engine in a place that the caller keeps, and the functions over it.
 //!
 //! An engine is one side of a connection from its first byte to its last: an `amqp_driver::Stream`, and the last refusal of a request. It lies in a
 //! [`place::Place`], or nothing does. `amqp1_new` makes it, `amqp1_take` takes what came and writes a record of each thing, `amqp1_answer` gives
 //! what a record asks for, `amqp1_heard` tells that bytes came which are not taken yet, `amqp1_tick` tells the time, `amqp1_send` sends transfers, `amqp1_cut` cuts long ones, `amqp1_call` does one operation of those below, and `amqp1_free` lets it go.
 //! `amqp1_version` is 256: 0.1.0. `include/amqp1.h` declares them.
+//!
+//! Beside the stream lie the links of its sessions, each a [`SessionEndpoint`](amqp_endpoints::SessionEndpoint) (AMQP 1.0 part 2, sections 2.6 and 2.7): `amqp1_link_attach`
+//! makes one with the first link of a session, and `amqp1_link_forget` lets it go. `amqp1_link_event` tells it a record, `amqp1_link_respond` sends what it owes, and
+//! the other functions of links are each one call of it.
 //!
 //! Nothing is kept of what came: bytes that `amqp1_take` did not take are given again, with what came since. Records say where payloads and
 //! performatives stand in the input of that call. Relays answer by `amqp_events::Policy`, and tell nobody: an owner reads the records.
@@ -61,7 +65,7 @@
 //!
 //! # Statuses
 //!
-//! Each export but the last two answers a status. 6 is never used.
+//! Each export but `amqp1_free` and `amqp1_version` answers a status. 6 is never used.
 //!
 //! - 0 `DONE`. Of `amqp1_take`: what is left is no whole header, SASL frame or frame. Of `amqp1_send`: no head is left.
 //! - 1 `REFUSED`, of a request, by a name, which `Refusal` gives. In a session that is mapped a transfer whose link is not attached (the
@@ -83,11 +87,14 @@
 //! - 11 `WAITS`: `Login`, `Challenge` or `Respond` comes first.
 //! - 12 `OVER`: the connection is over, and nothing is taken any more.
 //! - 13 `TOO_LARGE`: the SASL frame to send would have more than 512 bytes.
-//! - 14 `NOTHING`, of `amqp1_answer`: the record asks for no answer, or for none that was named, or none is due. Nothing changed.
+//! - 14 `NOTHING`, of `amqp1_answer`: the record asks for no answer, or for none that was named, or none is due; of the calls of links: there is nothing to send, or to
+//!   tell. Nothing changed.
 //! - 15 `LOST` and 16 `BROKEN`, of an answer to a Begin: memory was refused once the engine had begun. After the first the number is used, and the peer has no
 //!   answer; after the second it has one, and its Begin was not taken: the connection cannot go on.
 //! - 17 `NOT_RELEASED` and 18 `NOT_FORGOTTEN`, of an answer to an End, and of `LetGo`: what was before is done, and the channel was not given back; or it was,
 //!   and the session was not let go. `Refusal` says why.
+//! - 19 `NOT_DETACHED` and 20 `UNSETTLED`, of `amqp1_link_remove`; 21 `NOT_NEXT`, of `amqp1_link_event`; 22 `NO_LINK`, of `amqp1_link_attach` and `amqp1_link_remove`; 23 `IN_USE`, of
+//!   `amqp1_link_attach`: `status::Status` says when.
 //!
 //! An answer to a Begin is `REFUSED` as `NotOpened`, `ChannelInUse`, `TooLarge`, or by the engine's name, and one to an End, or `LetGo`, as `NotEnded`; it is
 //! `BAD_ARGUMENT` also where the frame is no Begin that answers none. `amqp_driver::BeginAnswer` and `EndAnswer` say what has changed then.
@@ -98,7 +105,8 @@
 //! own, none panics, each ends, the engine is freed once, and each contract holds. The walks by hand under `proofs/slot` show that a pointer to C
 //! and back owns what it owned.
 //!
-//! `specs/Place` has the contracts. `amqp1_take`, `amqp1_heard`, `amqp1_tick` and `amqp1_send` promise all that `Stream::take`, `heard`, `tick` and `send` do: which header or
+//! `specs/Place` has the contracts, and for links `specs/LinkNumbers` and `specs/LinkCalls`: each call is that of the session's endpoint which it names, whose contract stands in
+//! `amqp_endpoints`. `amqp1_take`, `amqp1_heard`, `amqp1_tick` and `amqp1_send` promise all that `Stream::take`, `heard`, `tick` and `send` do: which header or
 //! SASL frame was taken, and that no frame is run before a login where one is asked for; which frames were run, each once and in order, and the
 //! record of each; what was due; which heads were handled, and what became of each. `amqp1_answer` promises what `Stream::answer` does, and `specs/Answering`
 //! the same of the operations 34 to 36; the status and the last refusal say what became of it. `specs/Making` says which stream is made. `specs/Client` says of
@@ -113,15 +121,19 @@
 mod answering;
 mod asking;
 mod client;
+mod delivered;
 mod disposing;
+mod event;
 mod exports;
 mod finding;
 mod how;
 mod key;
+mod link_exports;
 mod linking;
 mod logging_in;
 mod logins;
 mod names;
+mod occupant;
 mod operation;
 mod place;
 mod reading;

@@ -2,7 +2,7 @@
 
 ghost use Rattle.std.specs.Prelude.{◌≡◌, option_copied};
 ghost use Rattle.amqp1.specs.Names.{IsAnsweredBy, IsCalled};
-ghost use Rattle.amqp1.specs.Inner.NameTables.{answer_at, closing_at, ending_at, name_at, step_name_at, frame_name_at, state_name_at, inner_name_at, alloc_name_at, begun_name_at, session_name_at, link_name_at, own_name_at, opening_name_at};
+ghost use Rattle.amqp1.specs.Inner.NameTables.{answer_at, closing_at, ending_at, name_at, step_name_at, frame_name_at, state_name_at, inner_name_at, alloc_name_at, begun_name_at, session_name_at, link_name_at, own_name_at, opening_name_at, sending_name_at};
 
 use fe2o3_amqp::{ErrorCondition, PeerAnswer};
 
@@ -38,7 +38,7 @@ fn name_at(number: u32) -> Option<&'static str>
         8 => link_name(number),
         9 => own_name(number),
         10 => opening_name(number),
-        _ => None,
+        _ => sending_name(number),
     }
 }
 
@@ -183,6 +183,21 @@ fn opening_name(number: u32) -> Option<&'static str>
         106 => Some("NotAmqp"),
         107 => Some("MalformedSasl"),
         108 => Some("UnexpectedSasl"),
+        _ => None,
+    }
+}
+
+/// Those of transfers that a link does not send.
+fn sending_name(number: u32) -> Option<&'static str>
+    ensures { option_copied result ≡ sending_name_at number }
+{
+    match number {
+        111 => Some("NoSender"),
+        112 => Some("NotAttached"),
+        113 => Some("TooLarge"),
+        114 => Some("NoneUnderWay"),
+        115 => Some("NoCredit"),
+        116 => Some("NotNext"),
         _ => None,
     }
 }

@@ -1,8 +1,8 @@
-//! What C keeps: a slot, and whether a client lies there.
+//! What C keeps: a slot, and whether an occupant lies there.
 
 ghost use Rattle.std.specs.Prelude.{◌≡◌, ◌<◌, IsSome, IsNone, IsSomeAnd, Some};
 
-use crate::client::Client;
+use crate::occupant::Occupant;
 use crate::slot::Slot;
 use raw_box::RawBox;
 use std::alloc::Global;
@@ -12,7 +12,7 @@ use std::alloc::Global;
 pub struct Place {
     /// 0 where nothing lies here. It tells the code what `slot.held` tells the proofs, so that no pointer is compared.
     pub full: u32,
-    /// The client, if one lies here.
+    /// The occupant, if one lies here.
     pub slot: Slot,
     /// What the number says of the slot.
     pub ghost filled: { 0 < full → IsSome slot.held },
@@ -20,7 +20,7 @@ pub struct Place {
 
 impl Drop for Place {
     fn drop(self) {
-        drop(self.into_client());
+        drop(self.into_occupant());
     }
 }
 
@@ -35,19 +35,19 @@ impl Place {
         }
     }
 
-    /// The place where this client lies.
-    pub fn of(client: Box<Client>) -> Place
+    /// The place where this occupant lies.
+    pub fn of(occupant: Box<Occupant>) -> Place
         ensures full { result.full ≡ 1 }
-        ensures held { result.slot.held ≡ Some client.value }
+        ensures held { result.slot.held ≡ Some occupant.value }
     {
         Place {
             full: 1,
-            slot: Slot::of(RawBox::of(client)),
+            slot: Slot::of(RawBox::of(occupant)),
         }
     }
 
-    /// The client, if one lies here.
-    pub fn into_client(self) -> Option<Box<Client>>
+    /// The occupant, if one lies here.
+    pub fn into_occupant(self) -> Option<Box<Occupant>>
         ensures none { self.full ≡ 0 → IsNone result }
         ensures some { 0 < self.full → IsSomeAnd result (λ b. self.slot.held ≡ Some b.value) }
     {

@@ -6,7 +6,7 @@ ghost use Rattle.std.specs.Option.{option_map};
 ghost use Rattle.amqp_values.specs.Reading.{number_at, byte_at, ReadsFront};
 ghost use Rattle.amqp_types.specs.Performatives.{IsPerformative};
 ghost use Rattle.amqp_types.specs.declared.performatives.Performative.TheVariants as its;
-ghost use Rattle.amqp1.specs.Reading.{flag_of, role_of, mode_of, Reads, ReadsOne, HasTransfer, IsErrorIfAny, IsSomeError};
+ghost use Rattle.amqp1.specs.Reading.{flag_of, role_of, mode_of, Reads, ReadsOne, HasTransfer, IsErrorIfAny, IsErrorOrNone, IsSomeError};
 ghost use Rattle.amqp1.specs.Inner.Kinds.{whole_of, with_payload, as_open, as_begin, as_attach, as_detach, as_flow, as_transfer, as_disposition};
 
 use amqp_memory::copy_of;
@@ -315,6 +315,17 @@ pub(crate) fn error(alloc: Global, input: &[u8]) -> Result<Option<Error>, ReadEr
         Ok(None)
     } else {
         Err(ReadError::Malformed)
+    }
+}
+
+/// None, where there are no bytes; or the error that they are.
+pub(crate) fn error_or_none(alloc: Global, text: &[u8]) -> Result<Option<Error>, ReadError>
+    ensures { Reads (IsErrorOrNone text.now) result }
+{
+    if text.is_empty() {
+        Ok(None)
+    } else {
+        some_error(alloc, text)
     }
 }
 

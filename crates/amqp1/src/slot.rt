@@ -1,26 +1,26 @@
-//! A pointer that C keeps, under which a client lies or nothing.
+//! A pointer that C keeps, under which an occupant lies or nothing.
 
 ghost use Rattle.std.specs.Prelude.{◌≡◌, IsSome};
 ghost use Rattle.std.specs.Coded.{coded_option};
 ghost use Rattle.std.specs.declared.option.Option.{Option};
 ghost use Rattle.std.specs.declared.option.Option.TheVariants.{None, Some};
-ghost use Rattle.amqp1.specs.ClientView.{ClientView};
-ghost use Rattle.amqp1.specs.contracts.client.Client.{the_row};
+ghost use Rattle.amqp1.specs.OccupantView.{OccupantView};
+ghost use Rattle.amqp1.specs.contracts.occupant.Occupant.{the_row};
 ghost use Rattle.amqp1.specs.Inner.Slot.{slot_owns};
 
-use crate::client::Client;
+use crate::occupant::Occupant;
 use raw_box::RawBox;
 use std::alloc::Global;
 use std::marker::Model;
 
-/// The pointer, and in `held` the client that lies under it. No field that C can read says whether one does.
+/// The pointer, and in `held` the occupant that lies under it. No field that C can read says whether one does.
 #[repr(C)]
 #[derive(Drop)]
 pub struct Slot {
     at: *mut u8,
     alloc: Global,
-    /// The client.
-    pub ghost held: { Option ClientView } by { coded_option the_row.coded },
+    /// The occupant.
+    pub ghost held: { Option OccupantView } by { coded_option the_row.coded },
 }
 
 impl Model for Slot {
@@ -38,8 +38,8 @@ impl Slot {
         }
     }
 
-    /// The slot of a client, from what its box is made of.
-    pub fn of(raw: RawBox<Client, Global>) -> Slot
+    /// The slot of an occupant, from what its box is made of.
+    pub fn of(raw: RawBox<Occupant, Global>) -> Slot
         ensures { result.held ≡ Some raw.value }
     {
         let RawBox { at, alloc } = raw;
@@ -49,14 +49,14 @@ impl Slot {
         }
     }
 
-    /// What the box of the client is made of.
-    pub fn into_raw(self) -> RawBox<Client, Global>
+    /// What the box of the occupant is made of.
+    pub fn into_raw(self) -> RawBox<Occupant, Global>
         requires { IsSome self.held }
         ensures { self.held ≡ Some result.value }
     {
         let Slot { at, alloc } = self;
         RawBox {
-            at: at as *mut Client,
+            at: at as *mut Occupant,
             alloc,
         }
     }

@@ -47,6 +47,16 @@ pub enum Status {
     NotReleased,
     /// Of the answer to an End: the session's channel was given back, and the session was not let go.
     NotForgotten,
+    /// Of a link that is to be taken away: the peer's Detach has not come, or this side's is still to be sent.
+    NotDetached,
+    /// Of a link that is to be taken away: deliveries of it are unsettled.
+    Unsettled,
+    /// Of a transfer's record: the number of the delivery that begins does not lie after each one that is unsettled, by less than 2^31.
+    NotNext,
+    /// Of a link that is to be attached, no handle is allotted to its name; of one to be taken away, no end has the handle.
+    NoLink,
+    /// Of a link that is to be attached: its handle has an end already.
+    InUse,
 }
 
 impl Status {
@@ -73,6 +83,11 @@ impl Status {
             Status::Broken => 16,
             Status::NotReleased => 17,
             Status::NotForgotten => 18,
+            Status::NotDetached => 19,
+            Status::Unsettled => 20,
+            Status::NotNext => 21,
+            Status::NoLink => 22,
+            Status::InUse => 23,
         }
     }
 

@@ -111,6 +111,17 @@ opening_name_at n =
     if nat_eq n 108 then Some (codes "UnexpectedSasl") else
     None
 
+-- of transfers that a link does not send
+abbrev pub sending_name_at : ℕ → Option (List ℕ)
+sending_name_at n =
+    if nat_eq n 111 then Some (codes "NoSender") else
+    if nat_eq n 112 then Some (codes "NotAttached") else
+    if nat_eq n 113 then Some (codes "TooLarge") else
+    if nat_eq n 114 then Some (codes "NoneUnderWay") else
+    if nat_eq n 115 then Some (codes "NoCredit") else
+    if nat_eq n 116 then Some (codes "NotNext") else
+    None
+
 abbrev pub name_at : ℕ → Option (List ℕ)
 name_at n =
     if nat_eq (n / 10) 0 then step_name_at n else
@@ -124,7 +135,7 @@ name_at n =
     if nat_eq (n / 10) 8 then link_name_at n else
     if nat_eq (n / 10) 9 then own_name_at n else
     if nat_eq (n / 10) 10 then opening_name_at n else
-    None
+    sending_name_at n
 
 abbrev pub closing_at : ℕ → Option ErrorCondition
 closing_at n =

@@ -5,11 +5,11 @@ use Rattle.std.specs.declared.option.Option.TheVariants.{None, Some}
 use Rattle.std.specs.Global.{Global}
 use Rattle.std.specs.contracts.impls.GlobalAllocator.TheImpl.{ghosts}
 use Rattle.std.specs.Box.Ownership.{box_owns}
-use Rattle.amqp1.specs.ClientView.{ClientView}
-use Rattle.amqp1.specs.contracts.client.Client.{the_row}
+use Rattle.amqp1.specs.OccupantView.{OccupantView}
+use Rattle.amqp1.specs.contracts.occupant.Occupant.{the_row}
 use base.Fml.{Fml, ftrue}
 use denote.RawPtr.{Ptr}
 
-abbrev pub slot_owns : Global → Ptr → Option ClientView → Fml
+abbrev pub slot_owns : Global → Ptr → Option OccupantView → Fml
 slot_owns alloc p None = ftrue
 slot_owns alloc p (Some x) = box_owns (ghosts.dealloc_token alloc) the_row p x

@@ -5,6 +5,8 @@ ghost use Rattle.amqp1.specs.declared.status.Status.TheVariants.{Done};
 ghost use Rattle.amqp1.specs.Asked.{AllotsOn, Answers, PerformsDispose, RunsFound, RunsOne};
 ghost use Rattle.amqp1.specs.Linking.{link_said};
 ghost use Rattle.amqp1.specs.Client.{PerformsLink, ShowsHandle, handle_in};
+ghost use Rattle.amqp1.specs.LinkCalls.{attached_as, last_attached, settled_status};
+ghost use Rattle.amqp1.specs.Occupant.{last_said, said_status};
 ghost use Rattle.amqp1.specs.Refused.{last_by};
 ghost use Rattle.amqp1.specs.Status.{status_of};
 
@@ -18,8 +20,9 @@ use crate::writing::write;
 use crate::{asking, disposing};
 use amqp_connection::SessionNo;
 use amqp_driver::{Asked, PlainRelay};
+use amqp_endpoints::AttachError;
 use amqp_engine::Input;
-use amqp_session::LinkRelay;
+use amqp_session::{LinkRelay, OutputHandle};
 use amqp_types::ReadError;
 
 impl Client {
@@ -72,6 +75,45 @@ impl Client {
             Asked::Done | Asked::NoMemory => {}
         }
         status
+    }
+
+    /// The status of a request of a link's, if one was made. Its refusal is kept, if it is one.
+    pub(super) fn note_said(&mut self, asked: Option<Asked>) -> Status
+        ensures status { result ≡ said_status asked }
+        ensures noted { self.new ≡ record self.old { last = last_said self.old.last self.old.stream.driver.engine.connection.state asked } }
+    {
+        match asked {
+            Some(asked) => self.note(asked),
+            None => Status::Nothing,
+        }
+    }
+
+    /// The status of a disposition. `BadArgument` where its outcome is none; a refusal is kept.
+    pub(super) fn note_settled(&mut self, asked: Option<Asked>) -> Status
+        ensures status { result ≡ settled_status asked }
+        ensures noted { self.new ≡ record self.old { last = last_said self.old.last self.old.stream.driver.engine.connection.state asked } }
+    {
+        match asked {
+            Some(asked) => self.note(asked),
+            None => Status::BadArgument,
+        }
+    }
+
+    /// The handle of a link that is attached, or the status of one that is not. The refusal of its Attach is kept, if it is one.
+    pub(super) fn note_attached(
+        &mut self,
+        attached: Result<OutputHandle, AttachError>,
+    ) -> Result<OutputHandle, Status>
+        ensures told { result ≡ attached_as attached }
+        ensures noted { self.new ≡ record self.old { last = last_attached self.old.last self.old.stream.driver.engine.connection.state attached } }
+    {
+        match attached {
+            Ok(handle) => Ok(handle),
+            Err(AttachError::NoLink) => Err(Status::NoLink),
+            Err(AttachError::InUse) => Err(Status::InUse),
+            Err(AttachError::OutOfMemory) => Err(Status::NoMemory),
+            Err(AttachError::Asked(asked)) => Err(self.note(asked)),
+        }
     }
 
     /// Has the engine take a disposition by numbers.

@@ -1,4 +1,4 @@
-use Rattle.std.proofs.Common.{arith, ◌≡◌, ℕ, List, length, Vec, Global, Bor, ltb, eqb}
+use Rattle.std.proofs.Common.{arith, ℕ, List, Vec, Global, Bor}
 use Rattle.std.proofs.lemmas.List.{drop_more}
 use Rattle.amqp_values.specs.declared.symbol.Symbol.{Symbol}
 use Rattle.amqp1.specs.Logins.{all_in, name_in}

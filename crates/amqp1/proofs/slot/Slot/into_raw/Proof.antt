@@ -21,7 +21,7 @@ use Rattle.std.proofs.BoxSteps.Steps.{box_out, box_in}
 use Rattle.std.proofs.raw_atomic.Walks.{proved_at, leaves}
 use Rattle.std.specs.Prelude.{IsSome}
 use Rattle.std.specs.declared.option.Option.TheVariants.{Some}
-use Rattle.amqp1.specs.ClientView.{ClientView}
+use Rattle.amqp1.specs.OccupantView.{OccupantView}
 use Rattle.amqp1.proofs.SlotStepLemmas.{Held, From, held_box, held_in, holds}
 use Rattle.amqp1.specs.contracts.slot.Slot as slot
 use Rattle.amqp1.specs.contracts.slot.Slot.into_raw.{ended, clauses}
@@ -37,7 +37,7 @@ into_raw_spec 𝓤 𝓛 𝓜 𝓡 wired =
     let Post : Val → SProp 𝓤 = (walk_of 𝓛 ended hs c).post z in let Run : List Val → SProp 𝓤 = λ ws. WpFn 𝓤 H 𝓣.C 𝓣.Λ fn ws Post in
     let s = z.0.3.0 in
     qed 𝓛 ((raw (alive 𝓛 ended.signature z.0.0 z.0.1) ⊛ ‵ (owns (types_at ended.signature.params z.0.0) z.0.3 z.0.4)) ∷ raw (fact 𝓤 (IsSome s.held)) ∷ []) ∵ move ! (1 ∷ []) $ heard ! (IsSome s.held) (λ some'.
-    let x : ClientView = (held_in s.held some').0 in let is = (held_in s.held some').1 in
+    let x : OccupantView = (held_in s.held some').0 in let is = (held_in s.held some').1 in
     split ! $ move ! (1 ∷ []) $ fsplit ! $ use1 𝓛 (‵ ((B Held).own_val (held_box s x) z.0.4.0)) (holds 𝓛 s x z.0.4.0 is) $
     box_out Held ! (held_box s x) z.0.4.0 (λ b o hv e ws fa.
     let w : Val = word Held hv b o in let good = box_typed Held hv b o fa in let r : From.Denot = record { at = block_ptr b o; alloc = s.alloc; value = x } in

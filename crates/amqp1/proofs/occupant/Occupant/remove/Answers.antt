@@ -1,0 +1,17 @@
+use Rattle.std.proofs.Common.{ap, sym, refl, ◌∙◌, Some, None}
+use Rattle.std.specs.FinMap.{from_entries}
+use Rattle.std.specs.HashMap.{HashMap}
+use Rattle.std.specs.Option.{option_copied_mut}
+use Rattle.std.specs.Prelude.{Err}
+use Rattle.amqp_links.specs.declared.session.RemoveError.TheVariants.{NoLink}
+use Rattle.amqp_endpoints.specs.Endpoint.{Removes}
+use Rattle.amqp1.specs.LinkCalls.{StepsBy}
+use Rattle.amqp1.proofs.OccupantLemmas.{found_there, lent}
+use Rattle.amqp1.proofs.occupant.Occupant.remove.Goals as goal
+
+pub returns-in_default : goal.returns-in_default
+returns-in_default c = found_there (λ r x. StepsBy r (Err NoLink) (λ v y w. Removes v c.args.link y w) c.args.session x (Err NoLink) (record { client = c.self.inside.client; links = from_entries c.get_mut.follows.lender-at-none.entries })) c.args.session _ c.self.inside.client c.self.inside.links.entries None (sym c.self.view_is) (sym c.get_mut.ensures.value ∙ ap option_copied_mut c.in_default.is) (refl, ap (λ (m : HashMap _ _ _). record { client = c.self.inside.client; links = from_entries m.entries }) c.get_mut.follows.holds-at-none)
+
+pub returns : goal.returns
+returns c = found_there (λ r x. StepsBy r (Err NoLink) (λ v y w. Removes v c.args.link y w) c.args.session x c.remove.result (record { client = c.self.inside.client; links = from_entries (c.get_mut.follows.lender c.remove.new.self).entries })) c.args.session _ c.self.inside.client c.self.inside.links.entries (Some c.in-Some.links.now) (sym c.self.view_is)
+    (sym c.in-Some.ensures.value) (c.remove.new.self, c.remove.ensures, ap (λ m. record { client = c.self.inside.client; links = m }) (lent c.self.inside.links.entries _ c.args.session c.in-Some.links.now c.remove.new.self (sym c.in-Some.ensures.value) (c.get_mut.follows.holds c.remove.new.self)))

@@ -1,0 +1,18 @@
+use Rattle.std.proofs.Common.{ap, sym, refl, ◌∙◌, Some, None}
+use Rattle.std.specs.FinMap.{from_entries}
+use Rattle.std.specs.HashMap.{HashMap}
+use Rattle.std.specs.Option.{option_copied_mut}
+use Rattle.amqp_driver.specs.contracts.plain.PlainRelayLinkRelay.TheImpl.{ghosts}
+use Rattle.std.specs.Prelude.{Err}
+use Rattle.amqp_links.specs.declared.session.sending.SendPartError.TheVariants.{NoSender}
+use Rattle.amqp_endpoints.specs.declared.endpoint.sending.SendFailure.TheVariants.{Link}
+use Rattle.amqp1.specs.LinkCalls.{SendsBy}
+use Rattle.amqp1.proofs.OccupantLemmas.{found_there, lent}
+use Rattle.amqp1.proofs.occupant.Occupant.send.Goals as goal
+
+pub returns-in_default : goal.returns-in_default
+returns-in_default c = found_there (λ r x. SendsBy r ghosts.gives c.args.head.now c.args.bytes.now c.args.given x (Err (Link NoSender)) (record { client = c.self.inside.client; links = from_entries c.get_mut.follows.lender-at-none.entries })) c.args.head.now.session _ c.self.inside.client c.self.inside.links.entries None (sym c.self.view_is) (sym c.get_mut.ensures.value ∙ ap option_copied_mut c.in_default.is) (refl, ap (λ (m : HashMap _ _ _). record { client = c.self.inside.client; links = from_entries m.entries }) c.get_mut.follows.holds-at-none)
+
+pub returns : goal.returns
+returns c = found_there (λ r x. SendsBy r ghosts.gives c.args.head.now c.args.bytes.now c.args.given x c.send_on.result (record { client = c.send_on.new.self; links = from_entries (c.get_mut.follows.lender c.send_on.new.links).entries })) c.args.head.now.session _ c.self.inside.client c.self.inside.links.entries (Some c.in-Some.links.now) (sym c.self.view_is)
+    (sym c.in-Some.ensures.value) (c.send_on.new.links, c.send_on.ensures, lent c.self.inside.links.entries _ c.args.head.now.session c.in-Some.links.now c.send_on.new.links (sym c.in-Some.ensures.value) (c.get_mut.follows.holds c.send_on.new.links))
