@@ -148,6 +148,7 @@ try_proton() {
     tried in_python "$proton" messages
     tried in_python "$proton" messages --messages 20 --size 100000
     tried watched "$proton"
+    try_live_windows proton-c 127.0.0.1 "$proton" windows
 }
 try_rabbitmq() {
     tried bridge "$rabbitmq" /queue/messages --sasl guest:guest

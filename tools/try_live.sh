@@ -1,5 +1,5 @@
 # What tools/try_brokers.sh tries of examples/c/amqp1_sender.c, amqp1_receiver.c and amqp1_listener.c with real peers. Each, and amqp1_send.c, has at most
-# 80 lines. This is sourced there, after `folder`, `running` and `prefix` are set. Where AMQP_RECORDINGS names a folder, the bytes of each connection are left there.
+# 80 lines; tools/try_c/amqp1_large.c is tried too. This is sourced there, after `folder`, `running` and `prefix` are set. Where AMQP_RECORDINGS names a folder, the bytes of each connection are left there.
 many=${AMQP_MESSAGES:-20}
 keys=$folder/keys
 proton_python=/usr/share/proton/examples/python proton_cpp=/usr/share/proton/examples/cpp
@@ -10,9 +10,11 @@ build_live() {
     local it
     for it in send sender receiver listener; do
         [ "$(wc -l <"examples/c/amqp1_$it.c")" -le 80 ] || { echo "amqp1_$it.c has more than 80 lines" && return 1; }
-        cc -std=c99 -O2 -DAMQP1_TLS -I"$prefix/include" "examples/c/amqp1_$it.c" examples/c/amqp1_socket.c "$prefix/lib/libamqp1.a" \
+        cc -std=c99 -O2 -DAMQP1_TLS -I"$prefix/include" "examples/c/amqp1_$it.c" examples/c/amqp1_{socket,serving}.c "$prefix/lib/libamqp1.a" \
             -o "$folder/$it" -lssl -lcrypto || return 1
     done
+    cc -std=c99 -O2 -DAMQP1_TLS -I"$prefix/include" -Iexamples/c tools/try_c/amqp1_large.c examples/c/amqp1_socket.c "$prefix/lib/libamqp1.a" \
+        -o "$folder/large" -lssl -lcrypto || return 1
     mkdir -p "$keys" && (cd "$keys" && make_keys) >"$folder/keys.log" 2>&1
 }
 
@@ -42,6 +44,34 @@ there_and_back() {
         recorded "amqp1-$name-receive" "$folder/receiver" "${server[@]}" "$many" "${login[@]}" >"$folder/received" && tail -n 1 "$folder/received"
 }
 
+# 10,000 messages there and back, with this window of the receiver: NAME WINDOW HOST PORT ADDRESS, and the login. Their bytes are not left.
+windowed() {
+    local -x AMQP_RECORDINGS= AMQP1_WINDOW=$2
+    local name=$1 many=10000
+    shift 2
+    there_and_back "$name-by-$AMQP1_WINDOW" "$@"
+}
+
+# A message of many frames, and before it a delivery that is aborted, unless its name is in `no_aborts`: NAME HOST PORT ADDRESS, and the login. RabbitMQ 3.10
+# ends the session at such a delivery ("Unexpected frame"), and qpid-proton's broker in C++ 0.37 the program.
+no_aborts=" rmq proton-cpp "
+large() {
+    local -a alone=()
+    [[ $no_aborts != *" $1 "* ]] || alone=(env AMQP1_NOT_ABORTED=1)
+    echo "amqp1_large with $1:"
+    timeout 60 "${alone[@]}" "$folder/large" "${@:2:3}" 1 "${@:5}"
+}
+
+# Windows of one, of some and of many messages, and a large one.
+try_live_windows() {
+    local name=$1 it
+    shift
+    for it in 1 10 1000; do
+        tried windowed "$name" "$it" "$@"
+    done
+    tried large "$name" "$@"
+}
+
 # A server refuses a wrong password.
 refused_by() {
     echo "a wrong password:"
@@ -58,9 +88,9 @@ await_listening() {
 }
 
 # The listener takes one client: NAME, what it is to say of it, the statuses that it may have, `tls` or `plain`, and the client's words, where PORT stands for
-# the port.
+# the port. A client that is let in ends with 0.
 listened() {
-    local name=$1 wanted=$2 status=$3 over=$4 port got=0 waits
+    local name=$1 wanted=$2 status=$3 over=$4 port got=0 client=0 waits
     shift 4
     port=$(free_port)
     local words=("$port" 1 guest guest)
@@ -68,10 +98,10 @@ listened() {
     recorded "$name" "$folder/listener" "${words[@]}" >"$folder/listened" 2>"$folder/listener.err" &
     waits=$!
     await_listening "$port" || return 1
-    timeout 60 "${@//PORT/$port}" >"$folder/client" 2>&1 || got=client
+    timeout 60 "${@//PORT/$port}" >"$folder/client" 2>&1 || client=$?
     wait "$waits" || got=$?
     echo "amqp1_listener, $name: $(cat "$folder/listened"); $(tail -n 1 "$folder/client")"
-    [[ " $status " = *" $got "* ]] && [ "$(cat "$folder/listened")" = "$wanted" ] && return
+    [[ " $status " = *" $got "* && ($client = 0 || $wanted != let*) ]] && [ "$(cat "$folder/listened")" = "$wanted" ] && return
     cat "$folder/listener.err"
     return 1
 }
@@ -88,19 +118,21 @@ build_proton_cpp() {
     g++ -std=c++17 -I"$proton_cpp" "$proton_cpp/broker.cpp" -o "$folder/cpp_broker" -lqpid-proton-cpp -lpthread
 }
 
-# A server that is started here: NAME, and its words, where PORT stands for the port.
+# A server that is started here: NAME, and its words, where PORT stands for the port, which is `at_port` from then on.
 with_server() {
-    local name=$1 port
+    local name=$1
     shift
-    port=$(free_port)
-    "${@//PORT/$port}" >"$folder/server.out" 2>&1 &
+    at_port=$(free_port)
+    "${@//PORT/$at_port}" >"$folder/server.out" 2>&1 &
     running+=($!)
-    await_port "$port" && there_and_back "$name" 127.0.0.1 "$port" examples
+    await_port "$at_port" && there_and_back "$name" 127.0.0.1 "$at_port" examples
 }
 
 try_live_servers() {
     tried with_server proton-cpp "$folder/cpp_broker" -a 127.0.0.1:PORT
+    try_live_windows proton-cpp 127.0.0.1 "$at_port" examples
     tried with_server proton-python /usr/bin/python3 "$proton_python/broker.py" -a 127.0.0.1:PORT
+    try_live_windows proton-python 127.0.0.1 "$at_port" examples
 }
 
 try_live_rabbitmq() {
@@ -108,6 +140,7 @@ try_live_rabbitmq() {
     tried there_and_back rmq-plain localhost "$rabbitmq" /queue/plain guest guest
     tried there_and_back rmq-external localhost "$rabbitmq_tls" /queue/external "$keys/ca.pem" "$keys/guest.pem" "$keys/guest.key"
     tried refused_by localhost "$rabbitmq" /queue/refused 1 guest another
+    try_live_windows rmq localhost "$rabbitmq" /queue/windows guest guest
 }
 
 try_live_clients() {

@@ -1,9 +1,9 @@
 /* Serves clients, one after the other: lets each in by PLAIN, as one user, or by ANONYMOUS; accepts what it sends, and sends it messages as long as it
    gives credit, on one link. `amqp1_listener PORT CLIENTS USER PASSWORD [CERTIFICATE KEY]`, for TLS with the last two; the status is 0 where each was
-   let in, and has closed. Build it by `cc amqp1_listener.c amqp1_socket.c $(pkg-config --cflags --libs amqp1)`. */
+   let in, and has closed. Build it by `cc amqp1_listener.c amqp1_serving.c amqp1_socket.c $(pkg-config --cflags --libs amqp1)`. */
 #include "amqp1_socket.h"
 
-static uint32_t link_to, sent;
+static uint32_t link_to = AMQP1_NONE, sent;
 static char plain[256];
 static size_t plain_length;
 
@@ -14,50 +14,50 @@ static void let_in(const amqp1_record *record, const uint8_t *input)
     printf("%s by %.*s\n", is_right ? "let in" : "refused", (int)record->last, (const char *)input + record->first);
 }
 
-/* The client attaches a link: this side takes the other end, by the same name, with the same address. */
+/* The client attaches a link: this side takes the other end. */
 static void take_link(const amqp1_record *record, const uint8_t *input)
 {
-    enum amqp1_role role = amqp1_has(record, AMQP1_FLAG_RECEIVER) ? AMQP1_SENDER : AMQP1_RECEIVER;
-    amqp1_bytes perf = amqp1_performative(input, record), of;
-    char name[256], address[256];
-    uint8_t text[1024];
-    uint32_t output;
-    size_t length;
-    amqp1_field(perf, role == AMQP1_SENDER ? AMQP1_ATTACH_SOURCE : AMQP1_ATTACH_TARGET, &of);
-    string_of(amqp1_bytes_field(perf, AMQP1_ATTACH_NAME), name, sizeof name);
-    string_of(amqp1_bytes_field(of, AMQP1_TERMINUS_ADDRESS), address, sizeof address);
-    must("a link", amqp1_link_on(&engine, record->session, record->input, role, AMQP1_FIRST, name, &output));
-    must("an attach's text", amqp1_write_attach(text, sizeof text, &length, name, output, role, 0, AMQP1_FIRST, address, address, 0));
-    must("an attach", amqp1_attach(&engine, record->session, text, length));
-    if (role == AMQP1_RECEIVER)
-        give_credit(record->session, output, &record->count, 100000);
-    else
-        link_to = output, sent = 0;
+    uint32_t link = answer_link(record, input, window);
+    if (amqp1_has(record, AMQP1_FLAG_RECEIVER))
+        link_to = link, sent = 0;
+    else if (link == link_to)
+        link_to = AMQP1_NONE;
 }
 
-/* Sends the client messages up to this number. */
-static void send_some(uint32_t session, uint32_t limit)
+static void send_some(const amqp1_event *event)
 {
-    const amqp1_head head = { session, link_to, 0, 10, AMQP1_FLAG_NUMBERED | AMQP1_FLAG_TAGGED | AMQP1_FLAG_FORMATTED, 4 };
-    uint8_t bytes[14] = { 0, 0, 0, 0, 0x00, 0x53, 0x75, 0xa0, 5, 'h', 'e', 'l', 'l', 'o' };
-    amqp1_sent became;
-    amqp1_went went;
-    for (; sent < limit; amqp1_u32_at(bytes, ++sent))
-        must("a message", amqp1_send(&engine, &head, 1, bytes, sizeof bytes, &became, 1, &went));
+    amqp1_head head = { event->session, link_to, 0, 0, AMQP1_FLAG_TAGGED | AMQP1_FLAG_FORMATTED, 4 };
+    uint32_t credit = event->credit;
+    amqp1_told told;
+    uint8_t bytes[64];
+    for (; credit; credit--, sent++) {
+        head.payload = message_of(sent, bytes);
+        must("a message", amqp1_link_send(&engine, &head, bytes, 4 + head.payload, sent, &told));
+    }
+}
+
+static void take_event(const amqp1_event *event)
+{
+    amqp1_unsettled delivery;
+    if (event->kind == AMQP1_EVENT_FLOW && event->link == link_to)
+        send_some(event);
+    else if (event->kind == AMQP1_EVENT_PART && event->flags & AMQP1_EVENT_LAST && !(event->flags & AMQP1_EVENT_PRESETTLED))
+        must("a disposition", amqp1_link_accept(&engine, event));
+    while (event->kind == AMQP1_EVENT_SETTLED && amqp1_link_settled_of(&engine, event, &delivery) == AMQP1_DONE)
+        ;
 }
 
 void take_record(const amqp1_record *record, const uint8_t *input)
 {
+    amqp1_event event;
+    must("a record", amqp1_link_follow(&engine, record, &event));
     if (record->kind == AMQP1_KIND_LOGIN_ASKED)
         let_in(record, input);
     else if (record->kind == AMQP1_KIND_ATTACH_WANTED)
         take_link(record, input);
-    else if (record->kind == AMQP1_KIND_FLOW && record->output == link_to && amqp1_has(record, AMQP1_FLAG_CREDITED))
-        send_some(record->session, record->count + record->credit);
-    else if (record->kind == AMQP1_KIND_TRANSFER && !amqp1_has(record, AMQP1_FLAG_MORE) && !amqp1_has(record, AMQP1_FLAG_SETTLED))
-        must("a disposition", amqp1_dispose(&engine, record->session, AMQP1_RECEIVER, record->first, record->first, 1, AMQP1_ACCEPTED));
     else
-        answer(record, input);
+        answer(record, input, &event);
+    take_event(&event);
 }
 
 int main(int count, char **words)
@@ -70,6 +70,7 @@ int main(int count, char **words)
     plain_length = (size_t)snprintf(plain, sizeof plain, "%c%s%c%s", 0, words[3], 0, words[4]);
     for (listening = listen_on(words[1], words[5], count == 7 ? words[6] : NULL), left = atoi(words[2]); left; left--) {
         accept_on(listening, key);
+        link_to = AMQP1_NONE;
         must("an open's text", amqp1_write_open(open, sizeof open, &length, "amqp1_listener", NULL, 65536, 255, 0));
         must("an engine", amqp1_start_server(&engine, key, now(), LIMIT, "PLAIN ANONYMOUS", open, length));
         must("an open", amqp1_open(&engine));

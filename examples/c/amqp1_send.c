@@ -1,4 +1,4 @@
-/* Sends messages to an address of a broker, by many in one call, and then receives them back: both ends of a link in one client over libamqp1.
+/* Sends messages to an address of a broker as it gives credit, and then receives them back: both ends of a link in one client over libamqp1.
 
        amqp1_send HOST PORT ADDRESS [COUNT [USER PASSWORD | CA CERTIFICATE KEY]]
 
@@ -9,66 +9,56 @@
 /* How many messages were sent, settled by the peer, and received; and the link on which they are sent. */
 static uint32_t sent, settled, received, link_to;
 
-/* Sends messages up to this number, a hundred by one call. */
-static void send_some(uint32_t limit)
+static void send_some(uint32_t credit)
 {
-    static amqp1_head heads[100];
-    static amqp1_sent became[100];
-    static uint8_t bytes[100 * 64];
-    amqp1_head head = { 0, 0, 0, 0, AMQP1_FLAG_NUMBERED | AMQP1_FLAG_TAGGED | AMQP1_FLAG_FORMATTED, 4 };
-    amqp1_went went;
-    char text[32];
-    size_t used = 0, n = 0, payload;
-    for (head.link = link_to; n < 100 && sent < limit; n++, sent++, used += 4 + head.payload) {
-        int length = snprintf(text, sizeof text, "message %u", (unsigned)sent);
-        amqp1_u32_at(bytes + used, sent);
-        must("a text", amqp1_write_data(bytes + used + 4, 60, &payload, text, (size_t)length));
-        head.payload = (uint32_t)payload;
-        heads[n] = head;
+    amqp1_head head = { 0, link_to, 0, 0, AMQP1_FLAG_TAGGED | AMQP1_FLAG_FORMATTED, 4 };
+    amqp1_told told;
+    uint8_t bytes[64];
+    for (; credit && sent < messages; credit--, sent++) {
+        head.payload = message_of(sent, bytes);
+        must("a message", amqp1_link_send(&engine, &head, bytes, 4 + head.payload, sent, &told));
     }
-    must("a send", amqp1_send(&engine, heads, n, bytes, used, became, 100, &went));
-    while (n--)
-        must("a message", became[n].refusal ? AMQP1_REFUSED : AMQP1_DONE);
 }
 
-static void receive(const amqp1_record *record, const uint8_t *input)
+/* Messages are settled: once all are, a link is attached on which they come back. */
+static void settle(const amqp1_event *event)
+{
+    amqp1_unsettled delivery;
+    uint32_t link_from, before = settled;
+    while (amqp1_link_settled_of(&engine, event, &delivery) == AMQP1_DONE)
+        settled++;
+    if (settled != messages || settled == before)
+        return;
+    printf("sent %u messages, all settled by the peer\n", (unsigned)sent);
+    must("a receiver", amqp1_receiver(&engine, 0, "from", the_address, window, &link_from));
+}
+
+static void receive(const amqp1_record *record, const amqp1_event *event, const uint8_t *input)
 {
     amqp1_bytes data;
-    if (received++ < 3 && amqp1_read_data(amqp1_payload(input, record), &data))
+    if (received < 3 && amqp1_read_data(amqp1_payload(input, record), &data))
         printf("received %.*s\n", (int)data.length, (const char *)data.at);
-    must("a disposition", amqp1_dispose(&engine, 0, AMQP1_RECEIVER, record->first, record->last, 1, AMQP1_ACCEPTED));
-    if (received == messages)
-        must("a close", amqp1_close(&engine, NULL, 0));
+    if (!(event->flags & AMQP1_EVENT_PRESETTLED))
+        must("a disposition", amqp1_link_accept(&engine, event));
+    received++;
 }
 
 void take_record(const amqp1_record *record, const uint8_t *input)
 {
-    if (record->kind == AMQP1_KIND_BEGUN) {
-        link_to = attach("to", AMQP1_SENDER);
-    } else if (record->kind == AMQP1_KIND_FLOW && record->output == link_to) {
-        uint32_t limit = record->count + record->credit;
-        while (sent < messages && sent < limit)
-            send_some(limit < messages ? limit : messages);
-    } else if (record->kind == AMQP1_KIND_DISPOSITION && amqp1_has(record, AMQP1_FLAG_RECEIVER)) {
-        settled += record->last - record->first + 1;
-        if (settled == messages) {
-            printf("sent %u messages, all settled by the peer\n", (unsigned)sent);
-            attach("from", AMQP1_RECEIVER);
-        }
-    } else if (record->kind == AMQP1_KIND_ATTACHED && !amqp1_has(record, AMQP1_FLAG_RECEIVER)) {
-        give_credit(0, record->output, NULL, messages);
-    } else if (record->kind == AMQP1_KIND_TRANSFER) {
-        receive(record, input);
-    } else {
-        go_on(record, input);
-    }
+    amqp1_event event = go_on(record, input);
+    if (record->kind == AMQP1_KIND_BEGUN)
+        must("a sender", amqp1_sender(&engine, 0, "to", the_address, &link_to));
+    else if (event.kind == AMQP1_EVENT_FLOW && event.link == link_to)
+        send_some(event.credit);
+    else if (event.kind == AMQP1_EVENT_SETTLED)
+        settle(&event);
+    else if (event.kind == AMQP1_EVENT_PART)
+        receive(record, &event, input);
 }
 
 int main(int words_count, char **words)
 {
-    start_client(words_count, words, "amqp1_send");
-    if (!run() || received != messages)
-        fail("it did not go to its end");
+    run_client(words_count, words, "amqp1_send", &received);
     printf("received %u messages\n", (unsigned)received);
     return 0;
 }

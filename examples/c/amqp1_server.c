@@ -49,11 +49,11 @@ void free_queues(void)
 
 /* ---- links */
 
-static struct link *link_of(struct peer *p, const amqp1_record *record)
+static struct link *link_of(struct peer *p, const amqp1_event *event)
 {
     struct link *it;
     for (it = p->links; it; it = it->next)
-        if (it->session == record->session && it->output == record->output)
+        if (it->session == event->session && it->output == event->link)
             return it;
     return NULL;
 }
@@ -74,23 +74,6 @@ void drop_links(struct peer *p, const struct link *one, uint32_t session)
     }
 }
 
-/* Tells the client a link's count and credit; `drain` says that the credit was used up, as the client asked. */
-static void tell_flow(struct peer *p, const struct link *it, int drain)
-{
-    uint8_t text[64];
-    size_t length;
-    if (!told(p, "a flow's text",
-              amqp1_write_flow(text, sizeof text, &length, it->output, &it->count, it->credit, drain, 0)))
-        told(p, "a flow", amqp1_flow(&p->engine, it->session, text, length));
-}
-
-/* The client may send a hundred more. */
-static void grant(struct peer *p, struct link *it)
-{
-    it->credit = 100;
-    tell_flow(p, it, 0);
-}
-
 /* Copies a text of a performative, as far as it fits. 0 where it does not, or has a 0. */
 static int text_of(amqp1_bytes from, char *to, size_t room)
 {
@@ -99,6 +82,16 @@ static int text_of(amqp1_bytes from, char *to, size_t room)
     memcpy(to, from.at, from.length);
     to[from.length] = 0;
     return 1;
+}
+
+/* A link is attached: where this side receives, the client may send a hundred at once. */
+static void attach_link(struct peer *p, const amqp1_record *record, const uint8_t *text, size_t length)
+{
+    amqp1_event event;
+    uint32_t link;
+    if (!told(p, "an attach", amqp1_link_attach(&p->engine, record->session, text, length, 50, 100, &link)) &&
+        !told(p, "an attach's event", amqp1_link_wanted(&p->engine, record, link, &event)))
+        told(p, "credit", amqp1_link_respond(&p->engine, &event, 0));
 }
 
 /* A client attaches: this side takes the other end, and answers with the same source and target. */
@@ -123,67 +116,49 @@ static void attach(struct peer *p, const amqp1_record *record, const uint8_t *in
     it->session = record->session;
     it->output = output;
     it->is_receiver = role == AMQP1_RECEIVER;
-    it->count = it->is_receiver ? record->count : 0;
     it->queue = queue_of(address);
     it->next = p->links;
     p->links = it;
     if (!told(p, "an attach's text",
               amqp1_write_attach(text, sizeof text, &length, name, output, role, 1, AMQP1_FIRST, address, address, 0)))
-        told(p, "an attach", amqp1_attach(&p->engine, it->session, text, length));
-    if (it->is_receiver)
-        grant(p, it);
+        attach_link(p, record, text, length);
 }
 
-/* A part of a message comes, mostly the whole. */
-static void receive(struct peer *p, struct link *it, const amqp1_record *record, const uint8_t *input)
+/* A part of a message, mostly the whole, is put behind those before. 0 where it is too long. */
+static int append(struct link *it, amqp1_bytes payload)
 {
-    amqp1_bytes payload = amqp1_payload(input, record);
     size_t old = it->partial ? it->partial->length : 0;
     struct message *message;
-    if (payload.length > UINT32_MAX - old) {
-        end_with(p, it->session, "amqp:link:message-size-exceeded");
-        return;
-    }
+    if (payload.length > UINT32_MAX - old)
+        return 0;
     message = (struct message *)realloc(it->partial, sizeof *message + old + payload.length);
     if (!message)
         abort();
-    if (!it->partial) {
-        it->number = record->first;
-        it->is_settled = 0;
-    }
-    it->is_settled |= amqp1_has(record, AMQP1_FLAG_SETTLED);
     memcpy(message->bytes + old, payload.at, payload.length);
     message->length = old + payload.length;
     message->next = NULL;
     it->partial = message;
-    if (amqp1_has(record, AMQP1_FLAG_MORE) && !amqp1_has(record, AMQP1_FLAG_ABORTED))
-        return;
-    it->partial = NULL;
-    it->count++;
-    if (amqp1_has(record, AMQP1_FLAG_ABORTED)) {
-        free(message);
-    } else {
-        *it->queue->last = message;
-        it->queue->last = &message->next;
-        if (!it->is_settled)
-            told(p, "a disposition", amqp1_dispose(&p->engine, it->session, AMQP1_RECEIVER, it->number, it->number, 1, AMQP1_ACCEPTED));
-    }
-    if (--it->credit < 50)
-        grant(p, it);
+    return 1;
 }
 
-/* A client says how much it takes: its credit counts from its own count of deliveries. */
-static void flow(struct peer *p, struct link *it, const amqp1_record *record)
+/* A part comes: a message that is whole goes to its queue, and one that is aborted is gone. */
+static void receive(struct peer *p, struct link *it, const amqp1_event *event, amqp1_bytes payload)
 {
-    uint32_t from = amqp1_has(record, AMQP1_FLAG_COUNTED) ? record->count : 0;
-    it->credit = amqp1_has(record, AMQP1_FLAG_CREDITED) ? from + record->credit - it->count : it->credit;
-    it->credit = it->credit > UINT32_MAX / 2 ? 0 : it->credit;
-    if (!amqp1_has(record, AMQP1_FLAG_DRAIN))
+    if (!append(it, payload)) {
+        end_with(p, it->session, "amqp:link:message-size-exceeded");
         return;
-    serve(p);
-    it->count += it->credit;
-    it->credit = 0;
-    tell_flow(p, it, 1);
+    }
+    if (event->flags & AMQP1_EVENT_LAST) {
+        *it->queue->last = it->partial;
+        it->queue->last = &it->partial->next;
+        it->queue->length++;
+        it->partial = NULL;
+        if (!(event->flags & AMQP1_EVENT_PRESETTLED))
+            told(p, "a disposition", amqp1_link_accept(&p->engine, event));
+    } else if (event->flags & AMQP1_EVENT_ABORTED) {
+        free(it->partial);
+        it->partial = NULL;
+    }
 }
 
 /* ---- deliveries that go out */
@@ -191,43 +166,55 @@ static void flow(struct peer *p, struct link *it, const amqp1_record *record)
 /* Sends one message, in as many transfers as it needs. */
 static void send_message(struct peer *p, struct link *it, const struct message *message)
 {
-    amqp1_head head = { 0, 0, 0, 0, AMQP1_FLAG_NUMBERED | AMQP1_FLAG_TAGGED | AMQP1_FLAG_FORMATTED | AMQP1_FLAG_SETTLED, 4 };
+    amqp1_head head = { 0, 0, 0, 0, AMQP1_FLAG_TAGGED | AMQP1_FLAG_FORMATTED | AMQP1_FLAG_SETTLED, 4 };
     size_t at = 0, length = head.tag_size + message->length;
     uint8_t *bytes = (uint8_t *)some(length);
     amqp1_parts cut;
-    amqp1_sent sent;
-    amqp1_went went;
+    amqp1_told sent;
     head.session = it->session;
     head.link = it->output;
     head.payload = (uint32_t)message->length;
-    amqp1_u32_at(bytes, it->count);
+    amqp1_u32_at(bytes, it->tag++);
     memcpy(bytes + head.tag_size, message->bytes, message->length);
     do {
         if (told(p, "a cut", amqp1_cut(&p->engine, &head, bytes + at, head.tag_size, &cut)) ||
-            told(p, "a transfer", amqp1_send(&p->engine, &cut.part, 1, bytes + at, length - at, &sent, 1, &went)) || sent.refusal)
+            told(p, "a transfer", amqp1_link_send(&p->engine, &cut.part, bytes + at, length - at, 0, &sent)))
             break;
-        at += went.used;
+        at += cut.part.tag_size + cut.part.payload;
         head = cut.rest;
     } while (cut.more);
     free(bytes);
-    it->count++;
-    it->credit--;
 }
 
-/* Sends what waits in the queues of a client's links, as far as there is credit. */
+/* Whether the client takes another message on a link, and there is one, and room for its bytes. */
+static int is_ready(struct peer *p, struct link *it)
+{
+    uint32_t credit = 0;
+    return it->queue->first && p->out_length < BACKLOG && amqp1_link_credit(&p->engine, it->session, it->output, &credit) == AMQP1_DONE && credit;
+}
+
+/* Sends what waits for a link, as far as there is credit, and answers what its client asked for: that the rest of its credit be used up, or a flow. */
+static void serve_link(struct peer *p, struct link *it)
+{
+    while (is_ready(p, it)) {
+        struct message *message = it->queue->first;
+        it->queue->first = message->next;
+        it->queue->length--;
+        if (!message->next)
+            it->queue->last = &it->queue->first;
+        send_message(p, it, message);
+        free(message);
+        collect(p);
+    }
+    told(p, "a flow", amqp1_link_flow(&p->engine, it->session, it->output, AMQP1_WISH_ANSWER, it->queue->length));
+}
+
 void serve(struct peer *p)
 {
     struct link *it;
     for (it = p->links; it; it = it->next)
-        while (!it->is_receiver && it->credit && it->queue->first && p->out_length < BACKLOG) {
-            struct message *message = it->queue->first;
-            it->queue->first = message->next;
-            if (!message->next)
-                it->queue->last = &it->queue->first;
-            send_message(p, it, message);
-            free(message);
-            collect(p);
-        }
+        if (!it->is_receiver)
+            serve_link(p, it);
 }
 
 /* ---- what a client says */
@@ -269,6 +256,7 @@ static void ended(struct peer *p, const amqp1_record *record, const uint8_t *inp
 {
     drop_links(p, NULL, record->session);
     told(p, "an end", amqp1_answer(&p->engine, record, input, length, AMQP1_ANSWER_ENDS, 0));
+    told(p, "a session's links", amqp1_link_forget(&p->engine, record->session));
 }
 
 static void closed(struct peer *p, const amqp1_record *record, const uint8_t *input, size_t length)
@@ -277,35 +265,45 @@ static void closed(struct peer *p, const amqp1_record *record, const uint8_t *in
     p->is_over = 1;
 }
 
-static void detached(struct peer *p, const amqp1_record *record)
+/* A link is over: what is unsettled on it is let go. */
+static void detached(struct peer *p, const struct link *it, const amqp1_event *event)
 {
-    uint8_t text[64];
-    size_t length;
-    struct link *it = link_of(p, record);
-    if (!it)
-        return;
-    if (!told(p, "a detach's text",
-              amqp1_write_detach(text, sizeof text, &length, it->output, amqp1_has(record, AMQP1_FLAG_FOR_GOOD), NULL, NULL)))
-        told(p, "a detach", amqp1_detach(&p->engine, it->session, 0, text, length));
-    drop_links(p, it, 0);
+    amqp1_unsettled delivery;
+    while (amqp1_link_left(&p->engine, event->session, event->link, &delivery) == AMQP1_DONE)
+        ;
+    told(p, "a link's end", amqp1_link_remove(&p->engine, event->session, event->link));
+    if (it)
+        drop_links(p, it, event->session);
+}
+
+/* What a record is to the links, and what they owe for it. A flow is answered as messages are sent. */
+static void take_event(struct peer *p, const amqp1_event *event, amqp1_bytes payload)
+{
+    struct link *it = link_of(p, event);
+    amqp1_unsettled delivery;
+    if (event->kind == AMQP1_EVENT_PART && it)
+        receive(p, it, event, payload);
+    while (event->kind == AMQP1_EVENT_SETTLED && amqp1_link_settled_of(&p->engine, event, &delivery) == AMQP1_DONE)
+        ;
+    if (event->kind == AMQP1_EVENT_FLOW && it && !it->is_receiver)
+        serve_link(p, it);
+    else
+        told(p, "what a link owes", amqp1_link_respond(&p->engine, event, 0));
+    if (event->kind == AMQP1_EVENT_ENDED)
+        detached(p, it, event);
 }
 
 void read_record(struct peer *p, const amqp1_record *record, const uint8_t *input, size_t length)
 {
-    struct link *it = amqp1_has(record, AMQP1_FLAG_LINKED) ? link_of(p, record) : NULL;
+    amqp1_event event;
+    if (told(p, "a record", amqp1_link_event(&p->engine, record, 0, &event)))
+        close_with(p, "amqp:internal-error");
+    else if (event.kind != AMQP1_EVENT_NOTHING)
+        take_event(p, &event, amqp1_payload(input, record));
     switch (record->kind) {
     case AMQP1_KIND_LOGIN_ASKED: let_in(p); break;
     case AMQP1_KIND_BEGIN_WANTED: begin(p, record, input); break;
     case AMQP1_KIND_ATTACH_WANTED: attach(p, record, input); break;
-    case AMQP1_KIND_FLOW:
-        if (it && !it->is_receiver)
-            flow(p, it, record);
-        break;
-    case AMQP1_KIND_TRANSFER:
-        if (it)
-            receive(p, it, record, input);
-        break;
-    case AMQP1_KIND_DETACHED: detached(p, record); break;
     case AMQP1_KIND_ENDED: ended(p, record, input, length); break;
     case AMQP1_KIND_CLOSED: closed(p, record, input, length); break;
     case AMQP1_KIND_REFUSED: refused(p, record, input, length); break;

@@ -17,14 +17,15 @@ struct message {
 struct queue {
     char name[NAME];
     struct message *first, **last;
+    uint32_t length;
     struct queue *next;
 };
 
-/* A link of a client. `count` is the delivery count, and `credit` how many more may go or come. A message of which more comes is `partial`. */
+/* A link of a client, by this side's handle; the library counts its credit. `tag` numbers what is sent, and a message of which more comes is `partial`. */
 struct link {
     struct link *next;
-    int is_receiver, is_settled;
-    uint32_t session, output, credit, count, number;
+    int is_receiver;
+    uint32_t session, output, tag;
     struct queue *queue;
     struct message *partial;
 };
@@ -42,7 +43,7 @@ struct peer {
     size_t out_length, out_room;
 };
 
-/* Tells a call that was not done, and answers whether it was not. */
+/* Tells a call that was not done, unless nothing was to be done, and answers whether it was not. */
 int told(struct peer *p, const char *what, int32_t status);
 
 /* Appends bytes that go out; and those of the engine. */

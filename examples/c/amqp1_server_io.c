@@ -16,7 +16,7 @@ int told(struct peer *p, const char *what, int32_t status)
 {
     uint8_t said[128];
     size_t length = 0;
-    if (status == AMQP1_DONE)
+    if (status == AMQP1_DONE || status == AMQP1_NOTHING)
         return 0;
     if (status != AMQP1_REFUSED || amqp1_refusal(&p->engine, said, sizeof said, &length) != AMQP1_DONE)
         length = 0;

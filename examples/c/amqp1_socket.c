@@ -17,12 +17,16 @@ static SSL *tls;
 
 amqp1 engine;
 const char *the_address;
-uint32_t messages;
+uint32_t messages, window = 100;
 static int the_socket = -1;
 static char this_side;
 
 /* When the engine wants to be told the time. */
 static uint64_t next_tick;
+
+/* What a client counts, and whether it has asked for its Close. */
+static const uint32_t *the_count;
+static int is_closing;
 
 void fail(const char *what)
 {
@@ -155,7 +159,8 @@ static void tls_to(const char *host, const char *ca, const char *certificate, co
 }
 #endif
 
-void start_client(int words_count, char **words, const char *name)
+/* Starts a client by its words. */
+static void start_client(int words_count, char **words, const char *name)
 {
     uint8_t key[16], text[512];
     size_t length;
@@ -163,6 +168,7 @@ void start_client(int words_count, char **words, const char *name)
         fail("usage: HOST PORT ADDRESS [COUNT [USER PASSWORD | CA CERTIFICATE KEY]]");
     the_address = words[3];
     messages = words_count > 4 ? (uint32_t)atoi(words[4]) : 5;
+    window = getenv("AMQP1_WINDOW") ? (uint32_t)atoi(getenv("AMQP1_WINDOW")) : window;
     connect_to(words[1], words[2], key);
     must("an open's text", amqp1_write_open(text, sizeof text, &length, name, words[1], 65536, 255, 0));
     if (words_count == 8) {
@@ -175,36 +181,52 @@ void start_client(int words_count, char **words, const char *name)
     must("an open", amqp1_open(&engine));
 }
 
-void go_on(const amqp1_record *record, const uint8_t *input)
+void run_client(int words_count, char **words, const char *name, const uint32_t *counted)
+{
+    the_count = counted;
+    start_client(words_count, words, name);
+    if (!run() || *counted != messages)
+        fail("it did not go to its end");
+}
+
+static void begin(void)
 {
     uint8_t text[64];
     size_t length;
-    if (record->refusal || amqp1_has(record, AMQP1_FLAG_ERROR) || record->kind == AMQP1_KIND_DETACHED || record->kind == AMQP1_KIND_ENDED)
-        unexpected(record, input);
-    if (record->kind != AMQP1_KIND_OPENED)
-        return;
     must("a begin's text", amqp1_write_begin(text, sizeof text, &length, 0, 2048, 2048, 255));
     must("a begin", amqp1_begin(&engine, 0, text, length));
 }
 
-uint32_t attach(const char *name, enum amqp1_role role)
+amqp1_event go_on(const amqp1_record *record, const uint8_t *input)
 {
-    const char *source = role == AMQP1_SENDER ? "here" : the_address, *target = role == AMQP1_SENDER ? the_address : "here";
-    uint8_t text[512];
-    uint32_t output;
-    size_t length;
-    must("a link", amqp1_link(&engine, 0, role, AMQP1_FIRST, name, &output));
-    must("an attach's text", amqp1_write_attach(text, sizeof text, &length, name, output, role, 0, AMQP1_FIRST, source, target, 0));
-    must("an attach", amqp1_attach(&engine, 0, text, length));
-    return output;
+    amqp1_event event;
+    must("a record", amqp1_link_follow(&engine, record, &event));
+    if (record->refusal || amqp1_has(record, AMQP1_FLAG_ERROR) || record->kind == AMQP1_KIND_DETACHED || record->kind == AMQP1_KIND_ENDED)
+        unexpected(record, input);
+    if (event.kind == AMQP1_EVENT_FAULT)
+        fail("the peer did what it may not do on a link");
+    if (record->kind == AMQP1_KIND_OPENED)
+        begin();
+    return event;
 }
 
-void give_credit(uint32_t session, uint32_t link, const uint32_t *count, uint32_t credit)
+/* Closes, once the client has counted as many messages as it is to. */
+static void close_when_counted(void)
 {
-    uint8_t text[64];
-    size_t length;
-    must("a flow's text", amqp1_write_flow(text, sizeof text, &length, link, count, credit, 0, 0));
-    must("a flow", amqp1_flow(&engine, session, text, length));
+    if (is_closing || !the_count || *the_count != messages)
+        return;
+    must("a close", amqp1_close(&engine, NULL, 0));
+    is_closing = 1;
+}
+
+uint32_t message_of(uint32_t number, uint8_t bytes[64])
+{
+    char text[32];
+    size_t payload;
+    int length = snprintf(text, sizeof text, "message %u", (unsigned)number);
+    amqp1_u32_at(bytes, number);
+    must("a text", amqp1_write_data(bytes + 4, 60, &payload, text, (size_t)length));
+    return (uint32_t)payload;
 }
 
 int listen_on(const char *port, const char *certificate, const char *key)
@@ -323,35 +345,6 @@ static void give(void)
     } while (length);
 }
 
-/* The client detaches a link. One that this side has detached is not live, and has no handle. */
-static void detach(const amqp1_record *record)
-{
-    uint8_t text[64];
-    size_t length;
-    if (record->output == AMQP1_NONE)
-        return;
-    must("a detach's text",
-         amqp1_write_detach(text, sizeof text, &length, record->output, amqp1_has(record, AMQP1_FLAG_FOR_GOOD), NULL, NULL));
-    must("a detach", amqp1_detach(&engine, record->session, 0, text, length));
-}
-
-void answer(const amqp1_record *record, const uint8_t *input)
-{
-    static uint32_t sessions;
-    switch (record->kind) {
-    case AMQP1_KIND_BEGIN_WANTED:
-    case AMQP1_KIND_ENDED:
-    case AMQP1_KIND_CLOSED:
-        must("an answer", amqp1_answer(&engine, record, input, record->payload_at + record->payload, AMQP1_ANSWER_ALL, sessions));
-        sessions += record->kind == AMQP1_KIND_BEGIN_WANTED;
-        break;
-    case AMQP1_KIND_DETACHED: detach(record); break;
-    default:
-        if (record->refusal)
-            unexpected(record, input);
-    }
-}
-
 /* Takes what came, up to what is no whole thing; how many bytes. What is answered goes out before the next thing is taken. */
 static size_t take(const uint8_t *in, size_t length)
 {
@@ -361,8 +354,10 @@ static size_t take(const uint8_t *in, size_t length)
     int32_t status;
     do {
         status = amqp1_take(&engine, now(), in + at, length - at, records, 64, &took);
-        for (n = 0; n < took.written; n++)
+        for (n = 0; n < took.written && !is_closing; n++) {
             take_record(records + n, in + at);
+            close_when_counted();
+        }
         at += took.taken;
         if (status != AMQP1_OVER && status != AMQP1_BAD_SIZE && status != AMQP1_FULL && status != AMQP1_AGAIN)
             must("what came", status);

@@ -1,5 +1,5 @@
 /* A blocking socket to one peer, with TLS or without, for amqp1_sender.c, amqp1_receiver.c, amqp1_send.c and amqp1_listener.c: connecting, listening, the
-   bytes of an engine in and out, the time, and randomness; and what each client does alike, and how a server answers what clients begin and end.
+   bytes of an engine in and out, the time, and randomness; and what each client does alike. amqp1_serving.c has how a server answers.
 
    With -DAMQP1_TLS amqp1_socket.c speaks TLS by OpenSSL (-lssl -lcrypto). Where the environment names a file by AMQP1_RECORD, each read and each write
    is a line of it, `A HEX` of the side that connects and `B HEX` of the side that listens, as it is without TLS: a password of PLAIN stands there too. */
@@ -29,34 +29,38 @@ void string_of(amqp1_bytes bytes, char *string, size_t room);
 /* The time, in milliseconds. */
 uint64_t now(void);
 
-/* What the words of a client name beside the server: an address there, and how many messages. */
+/* What the words of a client name beside the server: an address there, and how many messages. And for how many a receiver gives credit: 100, or what
+   AMQP1_WINDOW says in the environment. */
 extern const char *the_address;
-extern uint32_t messages;
+extern uint32_t messages, window;
 
-/* Starts a client of this name by the words of its program:
+/* Runs a client of this name by the words of its program:
 
        HOST PORT ADDRESS [COUNT [USER PASSWORD | CA CERTIFICATE KEY]]
 
    5 messages where no COUNT is there. It connects, and logs in by PLAIN as USER; by EXTERNAL over TLS, where the server's certificate has to be for
-   the host, and of the authority CA; or by ANONYMOUS. Its Open is asked for. Other words end the program, which says how it is used. */
-void start_client(int words_count, char **words, const char *name);
+   the host, and of the authority CA; or by ANONYMOUS. Other words end the program, which says how it is used. Once as many messages are counted it
+   closes, and takes no record any more. The program ends where the peer does not close too, or before. */
+void run_client(int words_count, char **words, const char *name, const uint32_t *counted);
 
-/* What a client does with each record that it does not take itself: at the server's Open the session 0 begins; a refusal, an error, a Detach or an End
-   ends the program. */
-void go_on(const amqp1_record *record, const uint8_t *input);
+/* What a client does with each record: at the server's Open the session 0 begins; a refusal, an error, a Detach or an End ends the program. What the record
+   is to the links of the session; what they owe for it is asked for. */
+amqp1_event go_on(const amqp1_record *record, const uint8_t *input);
 
-/* Attaches a link of a client's session, on whose end `role` it stands: to the address where it sends, from it where it receives. Its handle. */
-uint32_t attach(const char *name, enum amqp1_role role);
-
-/* Gives a link credit for so many messages after the `count` that its sender has counted; NULL where that is not known. */
-void give_credit(uint32_t session, uint32_t link, const uint32_t *count, uint32_t credit);
+/* Writes a delivery of this number: its tag, of four bytes, and a message with one data section. How many bytes the message has. */
+uint32_t message_of(uint32_t number, uint8_t bytes[64]);
 
 /* Listens on a port of the loopback, for TLS where there is a certificate; and the next client that connects there is the peer. */
 int listen_on(const char *port, const char *certificate, const char *key);
 void accept_on(int listening, uint8_t key[16]);
 
-/* Answers a client's Begin, Detach, End or Close; of another record nothing is done, but that one that was refused ends the program. */
-void answer(const amqp1_record *record, const uint8_t *input);
+/* Takes the other end of a link that a client attaches, by the same name and with the same addresses: its handle. Where this side receives it gives credit
+   for so many messages, and renews it. */
+uint32_t answer_link(const amqp1_record *record, const uint8_t *input, uint32_t credit);
+
+/* Answers a client's Begin, End or Close, and lets a link go that is over, where the record is that to the links. Of another record nothing is done, but that
+   one that was refused ends the program. */
+void answer(const amqp1_record *record, const uint8_t *input, const amqp1_event *event);
 
 /* Writes what waits, and takes what comes, until the connection is over, and frees the engine. Whether both sides have closed. */
 int run(void);

@@ -1,6 +1,6 @@
 #!/usr/bin/env python3
 """Writes inputs for amqp1_fuzz.c into a folder: of each recorded connection the frames of either side, in pieces, which are answered too; what was
-recorded from the first byte on, with its login; each operation; records; ticks; and transfers by heads.
+recorded from the first byte on, with its login; each operation; records; ticks; transfers by heads; and the calls of links with credit.
 
     tools/try_c/amqp1_corpus.py FOLDER
 """
@@ -89,10 +89,45 @@ def sends():
         yield step(SEND, 1 + 8, struct.pack("<IIIIHH", 7, 0, 0, long, 1 + 16384, 4) + b"tag1")
 
 
+def link_call(which, numbers, body=""):
+    """A call of links: the first number is the session that is there, whatever it is."""
+    return step(CALL, 1, bytes([128 + which]) + struct.pack(">4I", 0xFFFFFFFF, *numbers) + bytes.fromhex(body))
+
+
+def came(performative):
+    return step(TAKE, 3, frame(performative)) + step(OUTPUT, 31)
+
+
+def links():
+    """Links with credit: a delivery that came, and three that go after a flow; each call, in the order in which a program makes them, and alone."""
+    made = step(MAKE, 16 + 5) + came("005313c00c0743524043520a520543520a") + came("005314c00905520643a00161434277")
+    send, attach, error = "7401020304", PERFS[10], "00531dc00401a30161"
+    goes = [link_call(6, (0, 4, flags + 0x10000), send) for flags in (0x4000, 0x4004, 0x4008, 0x4002, 0x4000, 0x4004, 0x4000)]
+    settles = [link_call(7, (role, 0, 9), "000000") + link_call(8, (role, 0, 9)) * 3 for role in (0, 1)]
+    peer = [came(of) for of in ("005315c00a05414352094100532445", "005313c00c074352404352405206520243", "005316c00402520541", "005316c00402520641")]
+    flows = [link_call(4, (link, wish, 3)) for link in range(2) for wish in range(5)]
+    ends = [link_call(5, (link, 1, 0), body) + link_call(11, (link, 0, 0)) for link in range(2) for body in (error, "")]
+    left = [link_call(which, (0, 0, 0)) + link_call(which, (1, 0, 0)) for which in (9, 10)] + [link_call(11, (0, 0, 0)), link_call(11, (1, 0, 0))]
+    another = step(CALL, 1, bytes([8]) + (7).to_bytes(4, "big") + b"\0\0new") + link_call(0, (1, 2, 0), "005312c00803a1036e65774342")
+    others = [another, link_call(0, (1, 2, 0), attach), link_call(1, (0, 0, 0)), link_call(3, (9, 0, 0)), link_call(13, (0, 0, 0)), link_call(12, (0, 0, 0))]
+    story = goes + settles[:1] + peer[:2] + settles[1:] + flows + ends + peer[2:] + left + others
+    yield made + b"".join(story) + step(OUTPUT, 31)
+    yield made + b"".join(goes + peer + left + ends) + step(OUTPUT, 31)
+    for it in story:
+        yield made + it * 2 + step(OUTPUT, 31)
+    for which in range(14):
+        yield made + step(CALL, 1, bytes([128 + which]) + struct.pack(">4I", 7, 9, 9, 9) + bytes(120)) + step(OUTPUT, 31)
+
+
+def frame(performative):
+    of = bytes.fromhex("02000003" + performative)
+    return (len(of) + 4).to_bytes(4, "big") + of
+
+
 def main():
     folder = Path(sys.argv[1])
     folder.mkdir(parents=True, exist_ok=True)
-    inputs = [*requests(), *sends(), *answers(), *ticks()]
+    inputs = [*requests(), *sends(), *answers(), *ticks(), *links()]
     for path in sorted(CAPTURES.glob("*.txt")):
         frames = recorded(path)
         inputs += [pieces([of for by, of in frames if by == side]) for side in "AB"]

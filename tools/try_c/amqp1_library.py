@@ -29,7 +29,7 @@ class Took(ctypes.Structure):
 
 def declared():
     """The names of the functions that the headers have, and of the exports that they declare."""
-    text = "".join((HEADERS / f"{name}.h").read_text() for name in ("exports", "calls", "read", "trace", "write"))
+    text = "".join((HEADERS / f"{name}.h").read_text() for name in ("exports", "calls", "links", "read", "trace", "write"))
     inline = re.findall(r"^AMQP1_FUNCTION [^(]*?(\w+)\(", text, re.M)
     return {*inline, *re.findall(r"^(?:int32_t|uint32_t|void) (amqp1_\w+)\(", text, re.M)}
 

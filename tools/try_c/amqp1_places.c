@@ -51,9 +51,59 @@ void try_records(void)
     STANDS(amqp1_parts, rest, 20, 20);
     STANDS(amqp1_parts, more, 40, 4);
     STANDS(amqp1_parts, refusal, 44, 4);
+    CHECK(sizeof(amqp1_event) == 48 && sizeof(amqp1_told) == 24 && sizeof(amqp1_unsettled) == 16);
+    STANDS(amqp1_event, given, 0, 8);
+    STANDS(amqp1_event, size, 8, 8);
+    STANDS(amqp1_event, session, 16, 4);
+    STANDS(amqp1_event, kind, 20, 4);
+    STANDS(amqp1_event, link, 24, 4);
+    STANDS(amqp1_event, first, 28, 4);
+    STANDS(amqp1_event, last, 32, 4);
+    STANDS(amqp1_event, detail, 36, 4);
+    STANDS(amqp1_event, credit, 40, 4);
+    STANDS(amqp1_event, flags, 44, 4);
+    STANDS(amqp1_told, given, 0, 8);
+    STANDS(amqp1_told, number, 8, 4);
+    STANDS(amqp1_told, refusal, 12, 4);
+    STANDS(amqp1_told, has_given, 16, 4);
+    STANDS(amqp1_told, reserved, 20, 4);
+    STANDS(amqp1_unsettled, given, 0, 8);
+    STANDS(amqp1_unsettled, number, 8, 4);
+    STANDS(amqp1_unsettled, link, 12, 4);
     CHECK(amqp1_version() >> 16 == AMQP1_VERSION_MAJOR && amqp1_version() == AMQP1_VERSION_NUMBER);
-    CHECK(!strcmp(amqp1_status_name(AMQP1_SHORT), "SHORT") && !strcmp(amqp1_status_name(-1), "unknown") && !strcmp(amqp1_status_name(13), "TOO_LARGE") && !strcmp(amqp1_status_name(18), "NOT_FORGOTTEN") && !strcmp(amqp1_status_name(19), "unknown"));
+    CHECK(!strcmp(amqp1_status_name(AMQP1_SHORT), "SHORT") && !strcmp(amqp1_status_name(-1), "unknown") && !strcmp(amqp1_status_name(13), "TOO_LARGE") && !strcmp(amqp1_status_name(18), "NOT_FORGOTTEN") && !strcmp(amqp1_status_name(19), "NOT_DETACHED") && !strcmp(amqp1_status_name(23), "IN_USE") && !strcmp(amqp1_status_name(24), "unknown"));
     CHECK(!strcmp(amqp1_kind_name(AMQP1_KIND_REFUSED), "Refused") && !strcmp(amqp1_kind_name(AMQP1_KIND_NOT_OPENED), "NotOpened") && !strcmp(amqp1_kind_name(21), "unknown"));
+}
+
+/* The exports of links where nothing lies. */
+static void try_empty_links(amqp1 *place)
+{
+    static const uint8_t in[4] = { 0 };
+    amqp1_head head = head_of(7, 5, 0, 0, 0);
+    amqp1_record record;
+    amqp1_event event, old;
+    amqp1_told told = { 7, 7, 7, 7, 7 };
+    amqp1_unsettled delivery = { 7, 7, 7 };
+    uint32_t number = 7;
+    memset(&record, 7, sizeof record);
+    memset(&event, 7, sizeof event);
+    old = event;
+    CHECK(amqp1_link_attach(place, 7, in, sizeof in, 1, 2, &number) == AMQP1_NO_ENGINE && number == 7);
+    CHECK(amqp1_link_wanted(place, &record, 0, &event) == AMQP1_NO_ENGINE && !memcmp(&event, &old, sizeof event));
+    CHECK(amqp1_link_event(place, &record, 9, &event) == AMQP1_NO_ENGINE && !memcmp(&event, &old, sizeof event));
+    CHECK(amqp1_link_respond(place, &event, 9) == AMQP1_NO_ENGINE);
+    CHECK(amqp1_link_flow(place, 7, 0, AMQP1_WISH_GRANT, 9) == AMQP1_NO_ENGINE && amqp1_link_flow(place, 7, 0, 99, 9) == AMQP1_NO_ENGINE);
+    CHECK(amqp1_link_detach(place, 7, 0, 1, in, sizeof in) == AMQP1_NO_ENGINE);
+    CHECK(amqp1_link_send(place, &head, in, sizeof in, 9, &told) == AMQP1_NO_ENGINE && told.given == 7 && told.number == 7 && told.refusal == 7);
+    CHECK(told.has_given == 7 && told.reserved == 7);
+    CHECK(amqp1_link_settle(place, 7, 99, 0, 0, 1, AMQP1_ACCEPTED) == AMQP1_NO_ENGINE);
+    CHECK(amqp1_link_settled(place, 7, AMQP1_SENDER, 0, 9, &delivery) == AMQP1_NO_ENGINE);
+    CHECK(amqp1_link_left(place, 7, 0, &delivery) == AMQP1_NO_ENGINE);
+    CHECK(amqp1_link_left_of(place, 7, AMQP1_RECEIVER, &delivery) == AMQP1_NO_ENGINE);
+    CHECK(delivery.given == 7 && delivery.number == 7 && delivery.link == 7);
+    CHECK(amqp1_link_remove(place, 7, 0) == AMQP1_NO_ENGINE && amqp1_link_forget(place, 7) == AMQP1_NO_ENGINE);
+    CHECK(amqp1_link_credit(place, 7, 0, &number) == AMQP1_NO_ENGINE && number == 7);
+    CHECK(place->full == 0);
 }
 
 /* What each export answers where nothing lies; nothing is written. */
@@ -82,6 +132,7 @@ static void try_empty(amqp1 *place)
     CHECK(amqp1_heard(place, 9) == AMQP1_NO_ENGINE);
     CHECK(amqp1_tick(place, 9, &ticked) == AMQP1_NO_ENGINE && ticked.next == 7 && ticked.due == 7);
     CHECK(place->full == 0);
+    try_empty_links(place);
 }
 
 static void try_made_twice(void)

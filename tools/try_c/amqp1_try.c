@@ -168,6 +168,11 @@ int main(int count, char **words)
     try_sessions();
     try_pairs();
     try_streams();
+    try_credit();
+    try_endings();
+    try_faults();
+    try_many();
+    try_apart();
     if (count > 1)
         try_exchanges(words[1]);
     if (count > 2)

@@ -97,6 +97,11 @@ void try_peers(void);
 void try_sessions(void);
 void try_pairs(void);
 void try_streams(void);
+void try_credit(void);
+void try_endings(void);
+void try_faults(void);
+void try_many(void);
+void try_apart(void);
 /* The exchanges in the file of this name: what goes out, and what is refused; and recordings: records, and what is refused; and then those of them
    that are from the first byte on, cut once at each place of what comes. */
 void try_exchanges(const char *path);

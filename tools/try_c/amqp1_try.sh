@@ -14,7 +14,7 @@ trap 'rm -rf "$folder"' EXIT
 passed=0 failed=0
 . tools/try_c/counting.sh
 include=$prefix/include library=$prefix/lib
-tests=(tools/try_c/amqp1_{try,bytes,places,inputs,operations,takes,links,sends,cuts,writers,peers,sessions,pairs,streams,recorded}.c)
+tests=(tools/try_c/amqp1_{try,bytes,places,inputs,operations,takes,links,sends,cuts,writers,peers,sessions,pairs,streams,faces,credit,endings,faults,many,apart,recorded}.c)
 strict=(-Wall -Wextra -Wpedantic -Wconversion -Wshadow -Werror -I"$include" -Itools/try_c)
 sanitized=(-g -O1 -fsanitize=address,undefined -fno-sanitize-recover=undefined)
 recorded=("$folder/exchanges" "$folder/recorded")
@@ -81,7 +81,7 @@ each_refused() {
     cc -g -O1 -std=c99 "${strict[@]}" tools/try_c/amqp1_{"$file",bytes}.c "$library/libamqp1.a" -o "$folder/refused"
     "$folder/refused" >"$folder/wanted"
     for n in $(seq 2000); do
-        if ! REFUSE_NTH=$n REFUSE_LOG=$folder/log LD_PRELOAD=$folder/refuse.so timeout 20 "$folder/refused" >"$folder/told" ||
+        if ! timeout 20 env REFUSE_NTH="$n" REFUSE_LOG="$folder/log" LD_PRELOAD="$folder/refuse.so" "$folder/refused" >"$folder/told" ||
             ! diff <(grep -v '^~' "$folder/wanted") <(grep -v '^~' "$folder/told"); then
             echo "where request $n is refused"
             bad=$((bad + 1))
@@ -97,8 +97,15 @@ examples() {
     cc -std=c99 "${strict[@]}" "${sanitized[@]}" examples/c/amqp1_server.c examples/c/amqp1_server_io.c "$library/libamqp1.a" -o "$folder/server" &&
         cc -std=c99 "${strict[@]}" "${sanitized[@]}" examples/c/amqp1_idle.c "$library/libamqp1.a" -o "$folder/idle" &&
         for it in send sender receiver listener; do
-            cc -std=c99 "${strict[@]}" "${sanitized[@]}" "examples/c/amqp1_$it.c" examples/c/amqp1_socket.c "$library/libamqp1.a" -o "$folder/$it" || return 1
+            cc -std=c99 "${strict[@]}" "${sanitized[@]}" "examples/c/amqp1_$it.c" examples/c/amqp1_{socket,serving}.c "$library/libamqp1.a" -o "$folder/$it" || return 1
         done
+}
+
+# The smallest examples have at most 25 lines of code: without what stands before the first line of it, and empty lines.
+are_short() {
+    for it in sender receiver; do
+        [ "$(sed '1,/\*\/$/d' "examples/c/amqp1_$it.c" | grep -v '^#include' | grep -c .)" -le 25 ] || { echo "amqp1_$it.c" && return 1; }
+    done
 }
 
 # The listener lets one client in by PLAIN, and one by ANONYMOUS. Whether it listens is looked up, since each that connects is a client.
@@ -154,6 +161,7 @@ if has valgrind "all tests in C but the recordings, under valgrind"; then
 fi
 counts "each request for memory refused" each_refused refused
 counts "each request for memory of a server's answers refused" each_refused answers
+counts "each request for memory of links refused" each_refused refused_links
 counts "over Python" python3 tools/try_c/amqp1_library.py "$library/libamqp1.so"
 has pkg-config "the file for it" && holds "by pkg-config" by_pkg_config
 has cmake "the file for it" && holds "by CMake" by_cmake
@@ -163,6 +171,7 @@ if has clang "libFuzzer, for $seconds seconds" && [ -e "$(clang -print-file-name
     holds "any bytes, for $seconds seconds" fuzzed
 fi
 holds "the examples" examples
+holds "25 lines of code of each of the smallest" are_short
 holds "an hour of idle connections" idled
 holds "500 messages each way, between the examples" served $port "$folder/server $port 2" "$folder/send 127.0.0.1 $port q 500"
 holds "50 messages each way by PLAIN and by ANONYMOUS, between the small examples" logged_in $((port += 1))
