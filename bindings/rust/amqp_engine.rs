@@ -1,4 +1,4 @@
-//! AMQP 1.0's frame, connection and session layer for Rust: a safe wrapper over the library for C. Four files, and no dependency.
+//! AMQP 1.0's frame, connection and session layer for Rust: a safe wrapper over the library for C. Seven files, and no dependency.
 //!
 //! ```sh
 //! tools/build_c.sh PREFIX
@@ -10,20 +10,29 @@
 
 #![allow(dead_code)]
 
-use std::{ffi::c_void, fmt};
+use std::ffi::c_void;
 
 #[path = "amqp_engine_answering.rs"]
 mod answering;
+#[path = "amqp_engine_errors.rs"]
+mod errors;
+#[path = "amqp_engine_events.rs"]
+mod events;
+#[path = "amqp_engine_links.rs"]
+mod links;
 #[path = "amqp_engine_opening.rs"]
 mod opening;
 #[path = "amqp_engine_records.rs"]
 mod records;
 
 pub use answering::answers;
+pub use errors::{Error, Refusal};
+pub use events::{Event, EventKind, Fault, Life, LinkEnd, Part};
+pub use links::{NotSent, Told, Unsettled, Wish};
 pub use opening::{Due, Login, LoginCode, Opening, Tick};
 use opening::Ticked;
 use records::stop;
-pub use records::{Cut, NONE, Record, Sent, Stop, TransferHead, flag, kind};
+pub use records::{Cut, NONE, ReceiverSettleMode, Record, Role, Sent, Stop, TransferHead, flag, kind};
 
 #[repr(C)]
 struct Place {
@@ -120,67 +129,6 @@ enum Operation {
     BeginAnswer, EndAnswer, LetGo,
 }
 
-/// Why a call did not do what was asked.
-#[derive(Clone, Debug, PartialEq, Eq)]
-pub enum Error {
-    /// It was refused by name. The engine goes on.
-    Refused(Refusal),
-    /// Memory was refused. The request was not taken: ask again.
-    NoMemory,
-    /// The input is none of this operation's, as a performative that is another one.
-    BadArgument,
-    /// Memory was refused once the engine had begun a session in answer to the peer's: its number is used, and the peer has no answer.
-    Lost,
-    /// Memory was refused for the peer's Begin, once this side's was sent: the connection is to be closed.
-    Broken,
-    /// What this version of the library does not answer.
-    Unknown(i32),
-}
-
-/// A refusal.
-#[derive(Clone, Debug, Default, PartialEq, Eq)]
-pub struct Refusal {
-    /// Which it is.
-    pub name: String,
-    /// The error condition that the peer is told of it, or that it told; it may be empty.
-    pub condition: String,
-    /// What the peer said to people; it may be empty.
-    pub description: String,
-}
-
-impl fmt::Display for Error {
-    fn fmt(&self, to: &mut fmt::Formatter<'_>) -> fmt::Result {
-        match self {
-            Error::Refused(refusal) => write!(to, "refused: {}", refusal.name),
-            Error::NoMemory => to.write_str("memory was refused"),
-            Error::BadArgument => to.write_str("the input is none of this operation's"),
-            Error::Lost => to.write_str("memory was refused, and a session's number is used"),
-            Error::Broken => to.write_str("memory was refused, and the connection is to be closed"),
-            Error::Unknown(status) => write!(to, "unknown status {status}"),
-        }
-    }
-}
-
-impl std::error::Error for Error {}
-
-/// The end of a link on which a side stands.
-#[derive(Clone, Copy, Debug, PartialEq, Eq)]
-pub enum Role {
-    /// The end from which transfers go out.
-    Sender = 0,
-    /// The end to which they come.
-    Receiver = 1,
-}
-
-/// How the receiving end of a link settles.
-#[derive(Clone, Copy, Debug, PartialEq, Eq)]
-pub enum ReceiverSettleMode {
-    /// As deliveries come.
-    First = 0,
-    /// Once the sender has settled: such deliveries are recorded until they are.
-    Second = 1,
-}
-
 /// One side of a connection.
 pub struct Engine {
     place: Place,
@@ -245,11 +193,7 @@ impl Engine {
         match status {
             0 => Ok(()),
             1 | 17 | 18 => Err(Error::Refused(self.refusal())),
-            2 => Err(Error::NoMemory),
-            4 => Err(Error::BadArgument),
-            15 => Err(Error::Lost),
-            16 => Err(Error::Broken),
-            status => Err(Error::Unknown(status)),
+            status => Err(Error::of(status)),
         }
     }
 
@@ -440,3 +384,6 @@ impl Engine {
 #[cfg(test)]
 #[path = "amqp_engine_tests.rs"]
 mod tests;
+#[cfg(test)]
+#[path = "amqp_engine_links_tests.rs"]
+mod links_tests;

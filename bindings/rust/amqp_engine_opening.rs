@@ -95,12 +95,7 @@ impl Engine {
         let mut engine = Engine { place: Place { full: 0, at: std::ptr::null_mut() } };
         let (open_at, logins) = (open.as_ptr(), heads.as_ptr());
         let status = unsafe { amqp1_new(&mut engine.place, &how, open_at, open.len(), logins, heads.len(), bytes.as_ptr(), bytes.len()) };
-        match status {
-            0 => Ok(engine),
-            2 => Err(Error::NoMemory),
-            4 => Err(Error::BadArgument),
-            status => Err(Error::Unknown(status)),
-        }
+        if status == 0 { Ok(engine) } else { Err(Error::of(status)) }
     }
 
     /// A server's answer to a client that asks to be let in: `Ok` lets it in, and nothing else does; after another code the connection is over.

@@ -32,7 +32,7 @@ pub struct Record {
     pub credit: u32,
     /// How many messages the sender of a flow has ready. Of an attach its rcv-settle-mode: 0 first, 1 second.
     pub available: u32,
-    /// Why the frame was refused, by its number ([`Engine::refusal_text`]). 0 where it was not.
+    /// Why the frame was refused, by its number ([`Engine::refusal_text`](super::Engine::refusal_text)). 0 where it was not.
     pub refusal: u32,
     at: u32,
     size: u32,
@@ -173,6 +173,24 @@ pub mod flag {
     pub const TAGGED: u16 = 16384;
     /// A flow says how many messages are ready, in `available`.
     pub const AVAILABLE: u16 = 32768;
+}
+
+/// The end of a link on which a side stands.
+#[derive(Clone, Copy, Debug, PartialEq, Eq)]
+pub enum Role {
+    /// The end from which transfers go out.
+    Sender = 0,
+    /// The end to which they come.
+    Receiver = 1,
+}
+
+/// How the receiving end of a link settles.
+#[derive(Clone, Copy, Debug, PartialEq, Eq)]
+pub enum ReceiverSettleMode {
+    /// As deliveries come.
+    First = 0,
+    /// Once the sender has settled: such deliveries are recorded until they are.
+    Second = 1,
 }
 
 /// The head of a transfer. Its tag and its payload stand in the bytes that go with it, one after the other.

@@ -14,9 +14,11 @@ from pathlib import Path
 sys.path.insert(0, str(Path(__file__).resolve().parents[2] / "bindings" / "python"))
 
 from amqp_engine import (
-    ACCEPTED, RECEIVER, SENDER, Anonymous, Attach, Attached, Detach, Detached, Disposed, Disposition, Flow, Flowed, Open, Plain, Refusal,
-    Transfer, Transferred, body_of, connect, data, source, target,
+    ACCEPTED, RECEIVER, SENDER, Anonymous, Attach, Attached, Delivery, Detached, Disposed, Flowed, Open, Plain, Refusal, Transferred, body_of, connect, data,
+    source, target,
 )  # fmt: skip
+from amqp_engine.driver import FORMATTED
+from amqp_engine.linking import EVENT_FAULT, EVENT_LAST, EVENT_SETTLED, WISH_GRANT
 
 SESSION = 0
 #: How many messages may be unsettled
@@ -30,7 +32,16 @@ class Link:
         self.engine = connection.engine
         self.output = self.engine.link(SESSION, name, role)
         ends = (source(), target(address)) if role == SENDER else (source(address), target())
-        self.engine.attach(SESSION, Attach(name, self.output, role, source=ends[0], target=ends[1], initial_delivery_count=None if role else 0))
+        self.engine.link_attach(SESSION, Attach(name, self.output, role, source=ends[0], target=ends[1]))
+
+    def sends(self, number, message):
+        """Whether a message goes out: the link may have no credit for it."""
+        return not self.engine.link_deliver(Delivery(SESSION, self.output, number.to_bytes(4, "big"), data(message), FORMATTED)).refusal
+
+    def left(self):
+        """How many messages are left unsettled where the peer has gone, as text."""
+        count = len(list(self.engine.link_left_of(SESSION, SENDER)))
+        return f"; messages left unsettled: {count}" if count else ""
 
 
 async def next_event(connection, kind, link):
@@ -39,30 +50,31 @@ async def next_event(connection, kind, link):
         if isinstance(event, Refusal):
             raise event
         if isinstance(event, Detached) and event.detach.error:
-            sys.exit(f"the peer detached: {event.detach.error.condition}: {event.detach.error.description}")
+            sys.exit(f"the peer detached: {event.detach.error.condition}: {event.detach.error.description}{link.left()}")
+        if event.link.kind == EVENT_FAULT:
+            # the peer did what it may not do, as to send past its credit: it is told by a Detach
+            link.engine.link_respond(event.link)
+            await connection.flush()
+            sys.exit("the peer broke the rules of the link")
         if isinstance(event, kind) and (isinstance(event, Disposed) or link.output == event.output_handle):
             return event
-    sys.exit(f"the peer closed: {connection.engine.state}")
+    sys.exit(f"the peer closed: {connection.engine.state}{link.left()}")
 
 
 async def send(connection, address, messages):
     """Sends the messages, each unsettled, and waits until the peer has settled all."""
     link = Link(connection, "sender", SENDER, address)
     await next_event(connection, Attached, link)
-    credit, sent, unsettled = 0, 0, set()
-    while sent < len(messages) or unsettled:
-        while credit and sent < len(messages) and len(unsettled) < UNSETTLED_MOST:
-            transfer = Transfer(link.output, delivery_tag=sent.to_bytes(4, "big"), message_format=0, settled=False)
-            unsettled.add(connection.engine.deliver(SESSION, transfer, data(messages[sent])))
-            credit, sent = credit - 1, sent + 1
+    sent = settled = 0
+    while settled < len(messages):
+        while sent < len(messages) and sent - settled < UNSETTLED_MOST and link.sends(sent, messages[sent]):
+            sent += 1
         event = await next_event(connection, (Flowed, Disposed), link)
-        if isinstance(event, Disposed):
-            if event.state not in (None, ACCEPTED):
-                sys.exit(f"the peer does not take a message: {event.state}")
-            if event.role == RECEIVER and (event.settled or event.state == ACCEPTED):
-                unsettled.difference_update(event.among(unsettled))
-        elif event.flow.link_credit is not None:
-            credit = max(0, (event.flow.delivery_count or 0) + event.flow.link_credit - sent)
+        if isinstance(event, Disposed) and event.state not in (None, ACCEPTED):
+            sys.exit(f"the peer does not take a message: {event.state}")
+        if event.link.kind == EVENT_SETTLED:
+            settled += len(list(link.engine.link_settled_of(event.link)))
+        link.engine.link_respond(event.link, len(messages) - sent)
     print(f"sent {sent} messages, all settled by the peer")
     return link
 
@@ -71,16 +83,15 @@ async def receive(connection, address, wanted):
     """Receives the messages in order, and settles each."""
     link = Link(connection, "receiver", RECEIVER, address)
     await next_event(connection, Attached, link)
-    link.engine.flow(SESSION, Flow(handle=link.output, delivery_count=0, link_credit=len(wanted)))
-    parts, number, came = b"", None, 0
+    link.engine.link_flow(SESSION, link.output, WISH_GRANT, len(wanted))
+    parts, came = b"", 0
     while came < len(wanted):
         event = await next_event(connection, Transferred, link)
-        number = number if event.transfer.delivery_id is None else event.transfer.delivery_id
         parts += event.payload
-        if not event.transfer.more:
+        if event.link.flags & EVENT_LAST:
             if body_of(parts) != wanted[came]:
                 sys.exit(f"message {came} is another one")
-            link.engine.disposition(SESSION, Disposition(RECEIVER, number, settled=True, state=ACCEPTED))
+            link.engine.link_accept(event.link)
             parts, came = b"", came + 1
     print(f"received {came} messages in order, and settled them")
     return link
@@ -101,7 +112,7 @@ async def main():
         connection.engine.open()
         await connection.session(SESSION)
         for link in (await send(connection, said.address, messages), await receive(connection, said.address, messages)):
-            link.engine.detach(SESSION, Detach(link.output, closed=True))
+            link.engine.link_detach(SESSION, link.output, closed=True)
         connection.engine.end(SESSION)
         await connection.close()
         print(f"closed: {connection.engine.state}")

@@ -18,6 +18,8 @@ SIDE, SIDES = "a side", {"amqp1", "driver", "engine"}
 OTHERS = {
     # why a call was refused: in Python and in Rattle the error of a peer, as the standard has it
     ("Rust", "Error"),
+    # what a frame says of a link; what C has under that name is `LinkEvent`
+    ("Python", "Event"),
 }
 ORDER = ("C", "Python", "Rust", "Rattle")
 

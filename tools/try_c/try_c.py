@@ -21,7 +21,9 @@ from amqp_engine.driver import FORMATTED, MORE, NONE, NUMBERED
 from amqp_engine.library import How, LoginHead, Place, load
 from hostile.peers import frame
 from shared.command import command
+from try_c.try_c_chances import TESTS as BY_CHANCE
 from try_c.try_c_cuts import TESTS as OF_CUTS
+from try_c.try_c_links import TESTS as OF_LINKS
 from try_c.try_c_pair import Pair, frames, mapped, refused
 from try_c.try_c_sockets import OPEN, TESTS as OVER_SOCKETS
 from try_c.try_c_streams import TESTS as OF_STREAMS
@@ -388,7 +390,7 @@ def main():
     if len(sys.argv) != 2:
         sys.exit(__doc__.strip())
     os.environ["AMQP_LIBRARY"] = str(Path(sys.argv[1]).resolve())
-    failed, tests = 0, OF_VALUES + TESTS + OF_CUTS + OF_STREAMS + OVER_SOCKETS
+    failed, tests = 0, OF_VALUES + TESTS + OF_CUTS + OF_LINKS + BY_CHANCE + OF_STREAMS + OVER_SOCKETS
     for it in tests:
         try:
             it()

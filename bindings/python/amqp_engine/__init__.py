@@ -12,7 +12,7 @@
 a stream begins.
 """
 
-from .driver import Delivery, Driver, Record, Taken, Tick
+from .driver import Delivery, Driver, LinkEvent, Record, Taken, Tick, Told, Unsettled
 from .engine import Engine
 from .events import AnyEvent, Attached, Detached, Disposed, Event, Flowed, Refusal, Transferred
 from .listening import connect, serve
@@ -33,8 +33,8 @@ __version__ = "0.1.0"
 __all__ = [
     "ACCEPTED", "Anonymous", "AnyEvent", "Array", "Attach", "Attached", "BadArgument", "Begin", "Close", "Closed", "Connection", "Delivery",
     "Described", "Detach", "Detached", "Disposed", "Disposition", "Driver", "End", "Engine", "Error", "Event", "External", "FIRST", "Flow", "Flowed",
-    "HeaderRefused", "LoginRefused", "MIXED", "Malformed", "Map", "NoMemory", "Open", "Opening", "PeerSilent", "Plain", "RECEIVER", "RELEASED",
-    "Record", "Refusal", "Repeated", "SECOND", "SENDER", "SETTLED", "Server", "SessionBegan", "SessionEnded", "SessionRefused", "Symbol", "Taken",
-    "Tick", "Transfer", "Transferred", "UNSETTLED", "Ubyte", "Uint", "Ulong", "Ushort", "Waits", "address_of", "body_of", "condition_of", "connect",
-    "data", "rejected", "serve", "source", "target",
+    "HeaderRefused", "LinkEvent", "LoginRefused", "MIXED", "Malformed", "Map", "NoMemory", "Open", "Opening", "PeerSilent", "Plain", "RECEIVER",
+    "RELEASED", "Record", "Refusal", "Repeated", "SECOND", "SENDER", "SETTLED", "Server", "SessionBegan", "SessionEnded", "SessionRefused", "Symbol",
+    "Taken", "Tick", "Told", "Transfer", "Transferred", "UNSETTLED", "Ubyte", "Uint", "Ulong", "Unsettled", "Ushort", "Waits", "address_of",
+    "body_of", "condition_of", "connect", "data", "rejected", "serve", "source", "target",
 ]  # fmt: skip

@@ -12,21 +12,16 @@ from typing import Any, Dict, Iterator, List, NamedTuple, Optional, Sequence, Tu
 from . import library as lib
 from . import opening as begins
 from .events import Refusal
+from .linking import LinkEvent, Links, Told, Unsettled
 from .opening import Opening
 from .performatives import Open, Transfer
-from .requesting import REMOTE_OPEN, SEND, BadArgument, NoMemory, Requests, numbers
+from .records import (
+    ABORTED, ATTACHED, ATTACH_WANTED, AVAILABLE, BEGIN_WANTED, BEGUN, CLOSED, COUNTED, CREDITED, DETACHED, DISPOSITION, DRAIN, ECHO, ENDED, FLOW, FORMATTED,
+    FOR_GOOD, LINKED, MORE, NONE, NUMBERED, OF_RECEIVER, OPENED, RECORD, REFUSED, SETTLED, STATED, TAGGED, TRANSFER, WITH_ERROR, Delivery, Record, head_of,
+)  # fmt: skip
+from .requesting import REMOTE_OPEN, SEND, BadArgument, NoMemory, numbers
 
 _UNFIT, _REFUSAL_TEXT, _DISPOSE, _LOGIN, _CHALLENGE, _RESPOND, _IS_OVER = range(27, 34)
-
-#: What a record is of; `opening` has those that stand before the first frame
-(
-    OPENED, BEGUN, ATTACHED, ATTACH_WANTED, FLOW, TRANSFER, DISPOSITION, DETACHED, ENDED, CLOSED, REFUSED, BEGIN_WANTED,
-) = range(1, 13)  # fmt: skip
-
-#: What a frame says besides, and what a transfer is to say; the comments of `include/amqp1/records.h` have each
-(
-    NUMBERED, SETTLED, MORE, ABORTED, OF_RECEIVER, STATED, DRAIN, ECHO, WITH_ERROR, FOR_GOOD, CREDITED, COUNTED, LINKED, FORMATTED, TAGGED, AVAILABLE,
-) = (1 << at for at in range(16))  # fmt: skip
 
 #: What is due at a tick: nothing; an empty frame, which waits to be sent; the end of an opening that took too long; or of a peer that was silent
 DUE_NOTHING, DUE_BEAT, DUE_OPENING_LATE, DUE_PEER_SILENT = range(4)
@@ -34,13 +29,9 @@ _NEVER = 2**64 - 1
 #: What `answer` gives: to a Begin, an End and a Close of the peer's, and to a frame that was refused
 ANSWER_BEGINS, ANSWER_ENDS, ANSWER_CLOSES, ANSWER_REFUSALS = 1, 2, 4, 8
 ANSWER_ALL = 15
-#: No session, or no link
-NONE = 0xFFFFFFFF
 #: The states of deliveries
 STATE_ACCEPTED, STATE_REJECTED, STATE_RELEASED, STATE_MODIFIED, STATE_RECEIVED, STATE_OTHER = range(1, 7)
 
-_RECORD = struct.Struct("=BBH14I2H32s")
-_HEAD = struct.Struct("=4I2H")
 _SENT = struct.Struct("=2I")
 _PARTS = struct.Struct("=4I2H20s2I")
 #: Why a Begin that answers none was refused
@@ -48,36 +39,6 @@ WHY_BEGIN_WANTED = 33
 _PAYLOAD_TOO_LONG = 91
 _NONE_HERE = ctypes.c_char()
 _HEADER = b"AMQP\0\1\0\0"
-
-
-class Record(NamedTuple):
-    """What one received frame says. `output` is this side's handle of its link, `input` the peer's; `at`, `size`, `payload_at` and `payload` are places in
-    the bytes that were given, and how many.
-
-    Of an attach `outcome` says which termini it has: 0 none, 1 a source, 2 a target, 3 both. Its max-message-size is `last << 32 | first`, 0 where there
-    is no limit; `credit` is its snd-settle-mode, and `available` its rcv-settle-mode."""
-
-    kind: int
-    outcome: int
-    flags: int
-    session: int
-    output: int
-    input: int
-    first: int
-    last: int
-    format: int
-    # this hides a tuple's method of that name
-    count: int  # type: ignore[assignment]
-    credit: int
-    available: int
-    refusal: int
-    at: int
-    size: int
-    payload_at: int
-    payload: int
-    channel: int
-    tag_size: int
-    tag: bytes
 
 
 class Taken(NamedTuple):
@@ -98,25 +59,6 @@ class Tick(NamedTuple):
 
     due: int
     next: Optional[int]
-
-
-class Delivery(NamedTuple):
-    """A transfer that is to be sent: on the link that has this handle of this side's, as `link` or `link_on` gave it."""
-
-    session: int
-    link: int
-    tag: Optional[bytes]
-    payload: bytes
-    flags: int = NUMBERED
-    format: int = 0
-
-
-def _head_of(it: Delivery) -> bytes:
-    flags = it.flags | (TAGGED if it.tag is not None else 0)
-    try:
-        return _HEAD.pack(it.session, it.link, it.format, len(it.payload), flags, len(it.tag or b""))
-    except struct.error as error:
-        raise BadArgument(f"a head does not say this: {error}") from None
 
 
 def _delivery_of(session: int, transfer: Transfer, payload: bytes) -> Delivery:
@@ -146,7 +88,7 @@ def _moved(record: Record, by: int) -> Record:
     return record._replace(at=record.at + by, payload_at=record.payload_at + by)
 
 
-class Driver(Requests):
+class Driver(Links):
     """One side of one connection, over `libamqp1.so`."""
 
     def __init__(
@@ -166,10 +108,10 @@ class Driver(Requests):
         `opening` is how the stream begins, from its first byte on. Without one the driver begins behind the protocol headers, which are the caller's.
         `time` is when it begins, in milliseconds, and `limit` how many of them headers, SASL and both Opens may take."""
         functions = lib.load(library)
-        super().__init__(functions.amqp1_call, functions.amqp1_free)
+        super().__init__(functions)
         self._take, self._send, self._cut, self._tick = functions.amqp1_take, functions.amqp1_send, functions.amqp1_cut, functions.amqp1_tick
         self._answer, self._heard = functions.amqp1_answer, functions.amqp1_heard
-        self._records = ctypes.create_string_buffer(most * _RECORD.size)
+        self._records = ctypes.create_string_buffer(most * RECORD.size)
         self._most, self._took, self._went, self._ticked = most, lib.Took(), lib.Went(), lib.Ticked()
         self._parts = ctypes.create_string_buffer(_PARTS.size)
         self._texts: Dict[int, Tuple[str, ...]] = {}
@@ -240,8 +182,8 @@ class Driver(Requests):
         del held
         if status not in (lib.FULL, lib.BAD_SIZE, lib.AGAIN, lib.WAITS, lib.OVER) and not (status == lib.NO_MEMORY and took.taken):
             self._judge(status)
-        said = memoryview(self._records)[: took.written * _RECORD.size]
-        records = [Record._make(it) for it in _RECORD.iter_unpack(said)]
+        said = memoryview(self._records)[: took.written * RECORD.size]
+        records = [Record._make(it) for it in RECORD.iter_unpack(said)]
         if at:
             records = [_moved(it, at) for it in records]
         return Taken(took.taken, records, took.wanted, status == lib.BAD_SIZE, status == lib.OVER, status == lib.WAITS)
@@ -250,7 +192,7 @@ class Driver(Requests):
         """Gives what a record asks for, of the answers that are named; `data` are the bytes that `take` was given for it. False where it asks for none of
         them, or none is due. A Begin of the peer's is answered by a session of this number, which none had before. Raises as `answer_begin` and
         `answer_end` do, and `Refusal` where the End or the Close for a refused frame is refused."""
-        status = self._answer(ctypes.byref(self._place), _RECORD.pack(*record), data, len(data), answers, number)
+        status = self._answer(ctypes.byref(self._place), RECORD.pack(*record), data, len(data), answers, number)
         if status == lib.NOTHING:
             return False
         self._judge(status)
@@ -285,7 +227,7 @@ class Driver(Requests):
     def send(self, deliveries: Sequence[Delivery]) -> List[Tuple[int, int]]:
         """Sends transfers, each of one frame, in order. Of each: the number of its delivery, if it is the first one of it, and 0; or 0, and the number of its
         refusal. Where memory is refused the list is shorter: those that are left are to be sent again."""
-        heads = b"".join(map(_head_of, deliveries))
+        heads = b"".join(map(head_of, deliveries))
         data = b"".join(part for it in deliveries for part in (it.tag or b"", it.payload))
         count = len(deliveries)
         sent = ctypes.create_string_buffer(max(count, 1) * _SENT.size)
@@ -303,7 +245,7 @@ class Driver(Requests):
         """The parts of a transfer that may be longer than a frame, each of one frame. `send` takes them; one is to be sent only where the one before was
         not refused. Raises `Refusal` where no frame has room for one (`TooLarge`), and where the tag has more than 32 bytes (`TagTooLong`)."""
         parts: List[Delivery] = []
-        head, tag, at = _head_of(delivery), delivery.tag or b"", 0
+        head, tag, at = head_of(delivery), delivery.tag or b"", 0
         while True:
             self._judge(self._cut(ctypes.byref(self._place), head, tag, len(tag), self._parts))
             session, link, format, payload, flags, _, rest, more, refusal = _PARTS.unpack(self._parts)
@@ -329,6 +271,18 @@ class Driver(Requests):
                 raise self._refused_as(refusal)
             number = told if number is None else number
         return number
+
+    def link_deliver(self, delivery: Delivery, given: int = 0) -> Told:
+        """A whole delivery is to be sent on a link, in as many transfers as the peer's limit asks for. What became of it, as of `link_send`: where its first
+        transfer is refused nothing changed; where a later one is, the delivery is under way, and a transfer with `ABORTED` ends it."""
+        told = self.link_send(delivery, given)
+        if told.refusal != _PAYLOAD_TOO_LONG:
+            return told
+        for part in self.cut(delivery):
+            told = self.link_send(part, given)
+            if told.refusal:
+                return told
+        return told
 
     def dispose(self, session: int, role: bool, first: int, last: int, settled: bool, outcome: int = 0) -> None:
         """A disposition is to be sent, of the deliveries from `first` to `last`. `role` is this side's; the outcome is 0 for none, or accepted, released
@@ -356,4 +310,8 @@ class Driver(Requests):
         return Refusal("TooLarge" if number == _PAYLOAD_TOO_LONG else self._text_of(number)[0])
 
 
-__all__ = ["BadArgument", "Delivery", "Driver", "NoMemory", "Opening", "Record", "Taken", "Tick"]
+__all__ = [
+    "ABORTED", "ATTACHED", "ATTACH_WANTED", "AVAILABLE", "BEGIN_WANTED", "BEGUN", "BadArgument", "CLOSED", "COUNTED", "CREDITED", "DETACHED", "DISPOSITION",
+    "DRAIN", "Delivery", "Driver", "ECHO", "ENDED", "FLOW", "FORMATTED", "FOR_GOOD", "LINKED", "LinkEvent", "MORE", "NONE", "NUMBERED", "NoMemory",
+    "OF_RECEIVER", "OPENED", "Opening", "REFUSED", "Record", "SETTLED", "STATED", "TAGGED", "TRANSFER", "Taken", "Tick", "Told", "Unsettled", "WITH_ERROR",
+]  # fmt: skip

@@ -3,12 +3,12 @@
 from __future__ import annotations
 
 from collections import deque
-from typing import Any, Callable, Deque, Iterator, List, Optional, Sequence, Type, TypeVar, Union
+from typing import Any, Callable, Deque, Iterator, List, Optional, Sequence, Set, Type, TypeVar, Union
 
 from . import driver as said
 from . import opening as begins
 from .driver import NONE, Driver, Record
-from .events import AnyEvent, Attached, Detached, Disposed, Flowed, Refusal, Transferred, unreadable
+from .events import AnyEvent, Attached, Detached, Disposed, Event, Flowed, Refusal, Transferred, unreadable
 from .opening import Opening, OpeningEvent
 from .performatives import Attach, Close, Detach, Disposition, End, Flow, Open, Transfer
 from .values import Described, Malformed
@@ -41,6 +41,8 @@ class Engine(Driver):
         self._theirs: Optional[Open] = None
         self._has_theirs = False
         self._told_unfit = 0
+        # the sessions that have links by `link_attach`
+        self._linked: Set[int] = set()
         #: The most bytes of a frame, with its size, that this side takes
         self.max_frame_size = 2**32 - 1 if open.max_frame_size is None else open.max_frame_size
         #: The last channel of the peer's on which this side takes frames
@@ -107,8 +109,31 @@ class Engine(Driver):
             event = self._event_of(record, body)
         except Malformed as error:
             event = unreadable(error)
+        if record.session in self._linked:
+            event = self._tell_links(record, event)
         told = [] if event is None else [event]
         return told + self._unfit_of() if record.kind in (said.FLOW, said.DISPOSITION) else told
+
+    def link_attach(self, session: int, attach: Attach, low: int = 0, high: int = 0) -> int:
+        """As `Links.link_attach`. From then on each event of the session says what it is to its links (`Event.link`)."""
+        link = super().link_attach(session, attach, low, high)
+        self._linked.add(session)
+        return link
+
+    def link_forget(self, session: int) -> bool:
+        """As `Links.link_forget`."""
+        self._linked.discard(session)
+        return super().link_forget(session)
+
+    def _tell_links(self, record: Record, event: Optional[Told]) -> Optional[Told]:
+        """A record is told to the links of its session, and its event says what it is to them."""
+        try:
+            said = self.link_event(record)
+        except Refusal as refusal:
+            return refusal
+        if isinstance(event, Event):
+            event.link = said
+        return event
 
     def _unfit_of(self) -> List[Told]:
         """What a frame let out, and what does not fit the peer's limit, is gone."""

@@ -2,11 +2,15 @@
 
 from __future__ import annotations
 
-from dataclasses import dataclass
-from typing import Collection, List, Optional, Union
+from dataclasses import dataclass, field
+from typing import TYPE_CHECKING, Collection, List, Optional, Union
 
 from .performatives import Attach, Detach, Flow, Transfer
 from .values import Described, Malformed
+
+if TYPE_CHECKING:
+    from .linking import LinkEvent
+
 
 @dataclass
 class Event:
@@ -15,6 +19,8 @@ class Event:
     session: int
     input_handle: Optional[int]
     output_handle: Optional[int]
+    #: what it is to the links of its session, where `link_attach` has attached some: `link_respond` sends what they owe for it
+    link: "Optional[LinkEvent]" = field(default=None, init=False, repr=False, compare=False)
 
 
 @dataclass

@@ -9,11 +9,12 @@ from __future__ import annotations
 import ctypes
 import os
 from pathlib import Path
-from typing import Any, Optional
+from typing import Any, Dict, Optional, Tuple
 
 #: What a function of the library answers; `enum amqp1_status` of `include/amqp1/records.h` has each
 DONE, REFUSED, NO_MEMORY, TOO_SMALL, BAD_ARGUMENT, NO_ENGINE = range(6)
 FULL, BAD_SIZE, SHORT, AGAIN, WAITS, OVER, TOO_LARGE, NOTHING, LOST, BROKEN, NOT_RELEASED, NOT_FORGOTTEN = range(7, 19)
+NOT_DETACHED, UNSETTLED, NOT_NEXT, NO_LINK, IN_USE = range(19, 24)
 _FILE = "libamqp1.so.1"
 
 
@@ -66,6 +67,26 @@ class Ticked(ctypes.Structure):
     _fields_ = [("next", ctypes.c_uint64), ("due", ctypes.c_uint32), ("reserved", ctypes.c_uint32)]
 
 
+_NUMBER, _GIVEN, _SIZE, _BYTES, _AT = ctypes.c_uint32, ctypes.c_uint64, ctypes.c_size_t, ctypes.c_char_p, ctypes.c_void_p
+#: What the functions of links take behind the place: `include/amqp1/links.h` has each
+_OF_LINKS: Dict[str, Tuple[Any, ...]] = {
+    "attach": (_NUMBER, _BYTES, _SIZE, _NUMBER, _NUMBER, ctypes.POINTER(_NUMBER)),
+    "wanted": (_BYTES, _NUMBER, _AT),
+    "event": (_BYTES, _GIVEN, _AT),
+    "respond": (_BYTES, _NUMBER),
+    "flow": (_NUMBER, _NUMBER, _NUMBER, _NUMBER),
+    "detach": (_NUMBER, _NUMBER, _NUMBER, _BYTES, _SIZE),
+    "send": (_BYTES, _BYTES, _SIZE, _GIVEN, _AT),
+    "settle": (_NUMBER, _NUMBER, _NUMBER, _NUMBER, _NUMBER, ctypes.c_uint8),
+    "settled": (_NUMBER, _NUMBER, _NUMBER, _NUMBER, _AT),
+    "left": (_NUMBER, _NUMBER, _AT),
+    "left_of": (_NUMBER, _NUMBER, _AT),
+    "remove": (_NUMBER, _NUMBER),
+    "forget": (_NUMBER,),
+    "credit": (_NUMBER, _NUMBER, ctypes.POINTER(_NUMBER)),
+}
+
+
 def _found(path: Optional[str]) -> ctypes.CDLL:
     beside = Path(__file__).parent / _FILE
     named = path or os.environ.get("AMQP_LIBRARY") or (str(beside) if beside.exists() else _FILE)
@@ -92,6 +113,9 @@ def load(path: Optional[str] = None) -> ctypes.CDLL:
     library.amqp1_answer.restype = ctypes.c_int32
     library.amqp1_cut.argtypes = [place, at, at, size, at]
     library.amqp1_cut.restype = ctypes.c_int32
+    for name, types in _OF_LINKS.items():
+        of = getattr(library, f"amqp1_link_{name}")
+        of.argtypes, of.restype = [place, *types], ctypes.c_int32
     return library
 
 

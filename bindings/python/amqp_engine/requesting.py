@@ -18,6 +18,11 @@ _REFUSAL, REMOTE_OPEN, _MAX_PIECE_LEN, _PAYLOAD_ROOM = range(18, 22)
 _SESSION_OF, _STATE, _SESSION_STATE = range(23, 26)
 _BEGIN_ANSWER, _END_ANSWER, _LET_GO = range(34, 37)
 
+#: What is refused without a name of the engine's
+_REFUSED_AS = {
+    lib.NOT_DETACHED: "NotDetached", lib.UNSETTLED: "Unsettled", lib.NOT_NEXT: "NotNext", lib.NO_LINK: "NoLink", lib.IN_USE: "InUse", lib.OVER: "Over",
+}  # fmt: skip
+
 _R = TypeVar("_R", bound="Requests")
 
 #: The states of a connection, in the library's order (AMQP 1.0 part 2, section 2.4.6)
@@ -226,6 +231,8 @@ class Requests:
             return
         if status in (lib.REFUSED, lib.NOT_RELEASED, lib.NOT_FORGOTTEN):
             raise self._refusal()
+        if status in _REFUSED_AS:
+            raise Refusal(_REFUSED_AS[status])
         if status in (lib.LOST, lib.BROKEN):
             raise AnswerLost(status == lib.BROKEN)
         if status == lib.NO_MEMORY:
