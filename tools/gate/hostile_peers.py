@@ -18,7 +18,7 @@ from pathlib import Path
 
 sys.path.insert(0, str(Path(__file__).resolve().parents[1]))
 
-from amqp.canonical import boolean, composite, string, tag, uint
+from amqp.canonical import boolean, composite, string, tag, ubyte, uint
 from amqp.frames import ATTACH, BEGIN, CLOSE, DETACH, DISPOSITION, NULL, OPEN, TRANSFER
 from shared.command import command
 
@@ -48,10 +48,15 @@ def begin(channel=0):
     return framed(BEGIN, [NULL, uint(0), wide, wide], channel=channel)
 
 
-def begun():
+def attach(handle, mode=NULL):
+    """A link on which messages are sent."""
+    return framed(ATTACH, [string(f"l{handle}"), uint(handle), boolean(False), NULL, mode, SOURCE, TARGET, NULL, NULL, uint(0)])
+
+
+def begun(mode=NULL):
     """Headers, Open, a session, and a link on which messages are sent."""
     yield OPENED + begin()
-    yield framed(ATTACH, [string("l"), uint(0), boolean(False), NULL, NULL, SOURCE, TARGET, NULL, NULL, uint(0)])
+    yield attach(0, mode)
 
 
 def transfers(number, parts, settled):
@@ -74,10 +79,10 @@ def detached():
 
 
 class Told:
-    """What the broker sent: how many frames of each kind, how many messages it accepted and released, and the bytes of its Close."""
+    """What the broker sent: how many frames of each kind, how many messages it accepted and released, and the bytes of its Detach and Close."""
 
     def __init__(self):
-        self.frames, self.accepted, self.released, self.close = {}, 0, 0, b""
+        self.frames, self.accepted, self.released, self.detach, self.close = {}, 0, 0, b"", b""
 
     def take(self, frame):
         code = frame[6]
@@ -85,6 +90,8 @@ class Told:
         if code == DISPOSITION:
             self.accepted += ACCEPTED in frame
             self.released += RELEASED in frame
+        if code == DETACH:
+            self.detach = frame
         if code == CLOSE:
             self.close = frame
 
@@ -144,11 +151,11 @@ def keeps_what_it_has_room_for(program):
     return told.accepted + told.released == 200 and fits - 2 <= told.accepted <= fits + 1 and held < (MOST_BYTES >> 10) + BESIDE
 
 
-def counts_what_a_part_takes(program):
-    """A message whose parts have a byte each takes more memory than it has bytes; it ends before it takes all of that."""
+def takes_a_message_of_many_parts_for_one(program):
+    """A message whose parts have a byte each takes no more memory than another one."""
     parts = [b"x"] * (MOST_MESSAGE - 1)
     told, held = talk(program, itertools.chain(begun(), transfers(0, parts, False), [detached()]))
-    return told.released == 1 and held < 2 * (MOST_BYTES >> 10) + BESIDE
+    return told.accepted == 1 and held < BESIDE
 
 
 def passes_over_parts_of_no_bytes(program):
@@ -159,13 +166,24 @@ def passes_over_parts_of_no_bytes(program):
 
 def refuses_a_message_that_is_too_long(program):
     told, held = talk(program, itertools.chain(begun(), message(0, 64 * MOST_MESSAGE)))
-    return b"amqp:link:message-size-exceeded" in told.close and held < BESIDE
+    return b"amqp:link:message-size-exceeded" in told.detach and held < BESIDE
 
 
 def refuses_a_message_past_the_credit(program):
-    """Where the queue is full no more credit comes, and who goes on all the same is closed."""
+    """Where the queue is full no more credit comes, and the link of who goes on all the same is detached."""
     told, held = talk(program, itertools.chain(begun(), *(message(i, 1, True) for i in range(20000))))
-    return b"amqp:link:transfer-limit-exceeded" in told.close and held < BESIDE
+    return b"amqp:link:transfer-limit-exceeded" in told.detach and held < BESIDE
+
+
+def gives_no_credit_to_who_settles_nothing(program):
+    """Of messages that the client has to settle first, and does not, 2,048 and one credit more may come."""
+    told, held = talk(program, itertools.chain(begun(ubyte(1)), *(message(i, 1) for i in range(4000))))
+    return 2048 <= told.accepted <= 2548 and b"amqp:link:transfer-limit-exceeded" in told.detach and held < BESIDE
+
+
+def attaches_no_link_past_its_bound(program):
+    told, held = talk(program, itertools.chain([OPENED, begin()], map(attach, range(300)), [CLOSED]))
+    return told.frames[ATTACH] == 256 and b"amqp:resource-limit-exceeded" in told.close and held < BESIDE
 
 
 def takes_no_memory_for_a_size(program):
@@ -209,8 +227,8 @@ def runs_no_frame_without_a_header(program):
 
 
 PEERS = (
-    keeps_what_it_has_room_for, counts_what_a_part_takes, passes_over_parts_of_no_bytes, refuses_a_message_that_is_too_long,
-    refuses_a_message_past_the_credit, takes_no_memory_for_a_size, answers_one_begin_of_a_channel, begins_no_session_past_its_channels,
+    keeps_what_it_has_room_for, takes_a_message_of_many_parts_for_one, passes_over_parts_of_no_bytes, refuses_a_message_that_is_too_long,
+    refuses_a_message_past_the_credit, gives_no_credit_to_who_settles_nothing, attaches_no_link_past_its_bound, takes_no_memory_for_a_size, answers_one_begin_of_a_channel, begins_no_session_past_its_channels,
     closes_in_the_middle_of_a_delivery, refuses_a_second_open, takes_a_second_header_for_no_frame, runs_no_frame_without_a_header,
 )  # fmt: skip
 

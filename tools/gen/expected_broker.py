@@ -21,6 +21,8 @@ SENDER, RECEIVER, YES, NO = boolean(False), boolean(True), boolean(True), boolea
 SECOND = ubyte(1)
 SOURCE, TARGET = composite(0x28, [string("q")]), composite(0x29, [string("q")])
 ACCEPTED, RELEASED = composite(0x24, []), composite(0x26, [])
+# the same by its name, with an empty list
+ACCEPTED_BY_NAME = b"\0" + symbol("amqp:accepted:list") + b"\x45"
 # the client's channel, and the broker's, which is the lowest
 THEIRS, OURS = 3, 0
 LONG = bytes(range(256)) * 4
@@ -56,17 +58,25 @@ class Exchange:
             first = [uint(number), tag({"bin": f"{number:02x}"}), uint(0), boolean(settled)] if at == 0 else [NULL] * 4
             self.client(TRANSFER, [uint(handle), *first, YES if at + 1 < len(parts) else NULL], part)
 
-    def delivered(self, handle, number, parts, settled=False):
-        """A message of the broker's, whose tag is its number."""
+    def delivered(self, handle, number, message, payload, settled=False):
+        """A message of the broker's, in as many transfers as it takes. Its tag is the message's number, in the order in which they came."""
+        parts = in_frames(payload, 512)
         for at, part in enumerate(parts):
-            first = [uint(number), tag({"bin": f"{number:08x}"}), uint(0), boolean(settled)] if at == 0 else [NULL] * 4
+            first = [uint(number), tag({"bin": f"{message:016x}"}), uint(0), boolean(settled)] if at == 0 else [NULL] * 4
             self.broker(TRANSFER, [uint(handle), *first, YES if at + 1 < len(parts) else NULL], part)
 
-    def flow(self, handle, count, credit, drain=NULL):
-        self.client(FLOW, [uint(self.sent), uint(5000), uint(self.received), uint(5000), uint(handle), uint(count), uint(credit), NULL, drain])
+    def flow(self, handle, count, credit, drain=NULL, unseen=0, window=5000):
+        """A flow of the client's, which has not seen the last transfers yet, so many."""
+        numbers = [uint(self.sent - unseen), uint(window), uint(self.received), uint(5000)]
+        self.client(FLOW, [*numbers, uint(handle), uint(count), uint(credit), NULL, drain])
+
+    def detaches(self, handle, condition):
+        """The broker ends a link, and the client answers."""
+        self.broker(DETACH, [uint(handle), YES, composite(0x1D, [symbol(condition)])])
+        self.client(DETACH, [uint(handle), YES])
 
     def accepts(self, first, settled=YES):
-        self.broker(DISPOSITION, [RECEIVER, uint(first), NULL, settled, ACCEPTED])
+        self.broker(DISPOSITION, [RECEIVER, uint(first), uint(first), settled, ACCEPTED])
 
 
 def sized(channel, code, fields, payload):
@@ -75,9 +85,10 @@ def sized(channel, code, fields, payload):
 
 
 def in_frames(payload, limit):
-    """The parts of a message of the broker's, each in a frame: the first one leaves room for the widest number, and a later one has none."""
-    first = limit - len(sized(OURS, TRANSFER, [uint(1), uint(1 << 31), tag({"bin": "00000000"}), uint(0), NO, YES], b""))
-    later = limit - len(sized(OURS, TRANSFER, [uint(1), *[NULL] * 4, YES], b""))
+    """The parts of a message of the broker's, each in a frame, which leaves room for the widest number."""
+    widest = uint(1 << 31)
+    first = limit - len(sized(OURS, TRANSFER, [uint(1), widest, tag({"bin": "0" * 16}), uint(0), NO, YES], b""))
+    later = limit - len(sized(OURS, TRANSFER, [uint(1), widest, *[NULL] * 3, YES], b""))
     return [payload[:first], *[payload[at : at + later] for at in range(first, len(payload), later)]]
 
 
@@ -89,10 +100,10 @@ def opened(it):
     it.broker(BEGIN, [ushort(THEIRS), uint(0), uint(5000), uint(5000)])
 
 
-def attached(it, handle, role, mode=NULL, name="link", settles=NULL):
+def attached(it, handle, role, mode=NULL, name="link", settles=NULL, most=NULL):
     """A link of the client's; the broker gives it the same handle, since it counts from 0 too."""
-    count = uint(0)
-    it.client(ATTACH, [string(name), uint(handle), role, settles, mode, SOURCE, TARGET, NULL, NULL, count if role == SENDER else NULL])
+    count = uint(0) if role == SENDER else NULL
+    it.client(ATTACH, [string(name), uint(handle), role, settles, mode, SOURCE, TARGET, NULL, NULL, count, most])
     other = RECEIVER if role == SENDER else SENDER
     last = [uint(0)] if role == RECEIVER else [NULL, ulong(MOST_MESSAGE)]
     it.broker(ATTACH, [string(name), uint(handle), other, settles, mode, SOURCE, TARGET, NULL, NULL, *last])
@@ -110,8 +121,8 @@ def sends_and_receives(it):
     it.accepts(1)
     it.message(0, 2, [b"settled"], settled=True)
     it.flow(1, 0, 2)
-    it.delivered(1, 0, [b"hello, ", b"world"])
-    it.delivered(1, 1, in_frames(LONG, 512))
+    it.delivered(1, 0, 0, b"hello, world")
+    it.delivered(1, 1, 1, LONG)
 
 
 def gives_back(it):
@@ -119,7 +130,7 @@ def gives_back(it):
     it.client(DISPOSITION, [RECEIVER, uint(0), NULL, YES, ACCEPTED])
     it.client(DISPOSITION, [RECEIVER, uint(1), NULL, YES, RELEASED])
     it.flow(1, 2, 1)
-    it.delivered(1, 2, in_frames(LONG, 512))
+    it.delivered(1, 2, 1, LONG)
     # a detach gives it back too, and releases handle and name
     it.client(DETACH, [uint(1), YES])
     it.broker(DETACH, [uint(1), YES])
@@ -129,7 +140,7 @@ def settles_second(it):
     """On links of the second mode the sending end settles first."""
     attached(it, 1, RECEIVER, SECOND, "second")
     it.flow(1, 0, 1)
-    it.delivered(1, 3, in_frames(LONG, 512))
+    it.delivered(1, 3, 1, LONG)
     it.client(DISPOSITION, [RECEIVER, uint(3), NULL, NULL, ACCEPTED])
     # the answer to a range names its last too
     it.broker(DISPOSITION, [SENDER, uint(3), uint(3), YES, ACCEPTED])
@@ -143,9 +154,51 @@ def drains(it):
     """What is drained is used up, by messages that come settled, and by a flow."""
     attached(it, 3, RECEIVER, NULL, "drained", ubyte(1))
     it.flow(3, 0, 9, YES)
-    it.delivered(3, 4, [b"settled"], True)
-    it.delivered(3, 5, [b"second"], True)
-    it.broker(FLOW, [*it.numbers(), uint(3), uint(9), uint(0), NULL, YES])
+    it.delivered(3, 4, 2, b"settled", True)
+    it.delivered(3, 5, 3, b"second", True)
+    it.broker(FLOW, [*it.numbers(), uint(3), uint(9), uint(0), uint(0), YES])
+
+
+def waits_for_the_window(it):
+    """A message that is longer than the client's window goes on with it; and only then what is drained is used up."""
+    attached(it, 4, RECEIVER, NULL, "windowed", ubyte(1))
+    it.message(0, 4, [LONG])
+    it.accepts(4)
+    it.message(0, 5, [b"short"])
+    it.accepts(5)
+    it.flow(4, 0, 9, YES, window=1)
+    it.delivered(4, 6, 4, LONG, True)
+    it.flow(4, 0, 9, YES, unseen=2, window=50)
+    it.delivered(4, 7, 5, b"short", True)
+    it.broker(FLOW, [*it.numbers(), uint(4), uint(9), uint(0), uint(0), YES])
+
+
+def takes_a_state_by_its_name(it):
+    """A message that is accepted by the name of that state is settled: it does not come again where its link goes."""
+    it.message(0, 6, [b"named"])
+    it.accepts(6)
+    it.flow(1, 1, 1)
+    it.delivered(1, 8, 6, b"named")
+    it.client(DISPOSITION, [RECEIVER, uint(8), NULL, NULL, ACCEPTED_BY_NAME])
+    it.broker(DISPOSITION, [SENDER, uint(8), uint(8), YES, ACCEPTED_BY_NAME])
+    it.client(DETACH, [uint(1), YES])
+    it.broker(DETACH, [uint(1), YES])
+    it.flow(3, 9, 1, YES)
+    it.broker(FLOW, [*it.numbers(), uint(3), uint(10), uint(0), uint(0), YES])
+
+
+def ends_a_link(it):
+    """A link whose client takes no message so long as the one that waits; another one gets it. Without a source there is no link."""
+    attached(it, 1, RECEIVER, NULL, "small", NULL, ulong(3))
+    it.message(0, 7, [b"four"])
+    it.accepts(7)
+    it.flow(1, 0, 1)
+    it.detaches(1, "amqp:link:message-size-exceeded")
+    it.flow(3, 10, 1)
+    it.delivered(3, 9, 7, b"four", True)
+    it.client(ATTACH, [string("none"), uint(1), RECEIVER, NULL, NULL, NULL, TARGET])
+    it.broker(ATTACH, [string("none"), uint(1), SENDER, NULL, NULL, NULL, TARGET, NULL, NULL, uint(0)])
+    it.detaches(1, "amqp:invalid-field")
 
 
 def closed(it):
@@ -161,7 +214,7 @@ def closed(it):
 
 def main():
     it = Exchange()
-    for part in opened, sends_and_receives, gives_back, settles_second, drains, closed:
+    for part in opened, sends_and_receives, gives_back, settles_second, drains, waits_for_the_window, takes_a_state_by_its_name, ends_a_link, closed:
         part(it)
     CRATE.joinpath("stdin").write_bytes(it.given)
     CRATE.joinpath("stdout").write_bytes(it.wanted)

@@ -1,179 +1,149 @@
-//! Links: what the broker answers to an Attach and to a Detach of the client's.
+//! Links: what the broker answers to an Attach of the client's.
 
-use crate::broker::{Broker, Progress};
-use crate::consumers::Consumer;
-use crate::senders::{MOST_MESSAGE, Sender};
-use crate::unsettled::give_back;
-use amqp_driver::Record;
-use amqp_events::{EventRelay, LinkNames, Policy};
-use amqp_transport::{marked_name, push};
-use bytes::Bytes;
+use crate::broker::Broker;
+use crate::faults::attach_fault;
+use crate::giving::Consumer;
+use crate::senders::{MOST_MESSAGE, RENEWAL, Sender};
+use amqp_driver::{PlainRelay, Record, flag, marked_name};
+use amqp_events::{Policy, Recorded};
 use fe2o3_amqp::{
-    Attach, Detach, ErrorCondition, FrameBody, FrameDecoder, Handle, Input, InputHandle, Role,
+    Attach, ErrorCondition, FrameBody, Handle, Input, InputHandle, ReceiverSettleMode, Role,
     SessionNo,
 };
-use std::alloc::Global;
-use std::io;
+use std::io::{self, ErrorKind};
+
+/// How many links there may be.
+const MOST_LINKS: usize = 256;
+
+/// The `outcome` of an Attach that has a source and a target.
+const BOTH_TERMINI: u8 = 3;
 
 impl Broker {
     /// A link of the client's: it is allotted under its name and the client's role, and the client's Attach is answered.
-    pub fn take_attach(&mut self, record: &Record) -> io::Result<Progress> {
-        let frame = self.frame_of(record)?;
-        match attach_of(self.alloc, frame) {
-            Some(theirs) => self.attach(SessionNo(record.session), theirs),
-            None => self.fail(ErrorCondition::DecodeError),
+    pub fn take_attach(&mut self, record: &Record) -> io::Result<()> {
+        if let Some(fault) = self.why_not_attached(record) {
+            self.fault = Some(fault);
+            return Ok(());
         }
+        match self.body_in(record)? {
+            Some(FrameBody::Attach(theirs)) => self.attach(record, theirs),
+            other => {
+                drop(other);
+                self.fault = Some(ErrorCondition::DecodeError);
+                Ok(())
+            }
+        }
+    }
+
+    /// What the client may not do by an Attach: use a handle twice, or have too many links.
+    fn why_not_attached(&self, record: &Record) -> Option<ErrorCondition> {
+        let session = self.stream.engine().session(SessionNo(record.session))?;
+        if session
+            .output_handle_of(InputHandle(record.input))
+            .is_some()
+        {
+            return Some(ErrorCondition::HandleInUse);
+        }
+        if self.senders.len().saturating_add(self.consumers.len()) >= MOST_LINKS {
+            return Some(ErrorCondition::ResourceLimitExceeded);
+        }
+        None
     }
 
     /// Allots a link, and answers the Attach.
-    fn attach(&mut self, number: SessionNo, theirs: Attach) -> io::Result<Progress> {
-        if self.has_link(number.0, theirs.handle.0) {
-            drop(theirs);
-            return self.fail(ErrorCondition::HandleInUse);
-        }
-        match self.allot(number, &theirs) {
-            Ok(Some(output_handle)) => self.answer_attach(number, output_handle, theirs),
-            // prover
-            Ok(None) => {
-                drop(theirs);
-                Ok(Progress::Over)
-            }
+    fn attach(&mut self, record: &Record, theirs: Attach) -> io::Result<()> {
+        let name = match marked_name(self.alloc, theirs.role, theirs.name.as_str()) {
+            Ok(name) => name,
             Err(error) => {
                 drop(theirs);
-                Err(error)
+                return Err(io::Error::from(error));
+            }
+        };
+        self.allot(record, name.clone()?);
+        let answer = answer_to(theirs, our_role(record));
+        let Some(endpoint) = self.sessions.get_mut(&record.session) else {
+            drop(answer);
+            return Ok(());
+        };
+        match endpoint.attach_under(&mut self.stream, name.as_str(), answer, Some(RENEWAL)) {
+            Ok(handle) => self.add(record, handle.0),
+            Err(error) => {
+                self.fault = attach_fault(error);
+                Ok(())
             }
         }
     }
 
-    fn has_link(&self, session: u32, input: u32) -> bool {
-        self.senders
-            .iter()
-            .any(|it| it.session == session && it.input == input)
-            || self
-                .consumers
-                .iter()
-                .any(|it| it.session == session && it.input == input)
+    /// Allots a link under this name. The session keeps nothing of what comes on it: what is unsettled the endpoint knows.
+    fn allot(&mut self, record: &Record, name: String) {
+        let mut policy = Policy::new(our_role(record), ReceiverSettleMode::First);
+        policy.recorded = Recorded::Never;
+        let asked = self.stream.request(Input::AllocateIncomingLink(
+            SessionNo(record.session),
+            name,
+            PlainRelay::new(policy),
+            InputHandle(record.input),
+        ));
+        self.note(Some(asked));
     }
 
-    /// Allots a link for an Attach of the client's. `None` where that is refused, and the connection closed for it.
-    fn allot(&mut self, number: SessionNo, theirs: &Attach) -> io::Result<Option<Handle>> {
-        let name = marked_name(self.alloc, theirs.role, theirs.name.as_str())?;
-        let input = InputHandle(theirs.handle.0);
-        let policy = Policy::new(other_end(theirs.role), theirs.rcv_settle_mode);
-        let relay = EventRelay::attached(self.events.share()?, number.0, input, policy);
-        push(
-            &mut self.inputs,
-            Input::AllocateIncomingLink(SessionNo(number.0), name.clone()?, relay, input),
-        )?;
-        if self.run()? == Progress::Over {
-            return Ok(None);
+    /// The link is attached. One without a source or a target is none that messages go over: it is detached.
+    fn add(&mut self, record: &Record, handle: u32) -> io::Result<()> {
+        match our_role(record) {
+            Role::Sender => self.consumers.push(Consumer::new(record, handle))?,
+            Role::Receiver => self.senders.push(Sender::new(record, handle))?,
         }
-        match self.engine().output_handle(number, name.as_str()) {
-            None => Ok(None),
-            Some(handle) => Ok(Some(Handle(handle.0))),
+        self.tell_wanted(record, handle)?;
+        if record.outcome == BOTH_TERMINI {
+            return Ok(());
         }
+        self.detach(record.session, handle, ErrorCondition::InvalidField)
     }
 
-    fn answer_attach(
-        &mut self,
-        number: SessionNo,
-        handle: Handle,
-        theirs: Attach,
-    ) -> io::Result<Progress> {
-        if theirs.role == Role::Receiver {
-            self.consumers.push(Consumer::new(
-                number.0,
-                theirs.handle.0,
-                handle.0,
-                theirs.snd_settle_mode,
-            ))?;
-        } else {
-            self.senders.push(Sender::new(
-                self.alloc,
-                number.0,
-                theirs.handle.0,
-                handle.0,
-                theirs.rcv_settle_mode,
-                theirs.initial_delivery_count.unwrap_or(0),
-            ))?;
-        }
-        push(
-            &mut self.inputs,
-            Input::Attach(number, answer_to(theirs, handle)),
-        )?;
-        self.go_on()
-    }
-
-    /// The client detached: the link goes on this side too, and messages that were sent on it and not settled go back.
-    pub fn take_detach(&mut self, link: LinkNames, closed: bool) -> io::Result<()> {
-        let (Some(input), Some(output)) = (link.input, link.output) else {
+    fn tell_wanted(&mut self, record: &Record, handle: u32) -> io::Result<()> {
+        let Some(endpoint) = self.sessions.get_mut(&record.session) else {
             return Ok(());
         };
-        self.drop_senders(link.session, Some(input.0));
-        self.consumers
-            .retain(|it| !is_link(link, it.session, it.input));
-        give_back(
-            &mut self.unsettled,
-            link.session,
-            Some(input.0),
-            &mut self.queue,
-        )?;
-        let detach = Detach {
-            closed,
-            ..Detach::new(Handle(output.0))
+        match endpoint.on_wanted(record, handle) {
+            Ok(_) => Ok(()),
+            Err(_) => Err(io::Error::from(ErrorKind::OutOfMemory)),
+        }
+    }
+
+    /// Ends a link for this reason.
+    pub fn detach(&mut self, session: u32, handle: u32, why: ErrorCondition) -> io::Result<()> {
+        let error = why.to_error(self.alloc)?;
+        let Some(endpoint) = self.sessions.get_mut(&session) else {
+            drop(error);
+            return Ok(());
         };
-        push(
-            &mut self.inputs,
-            Input::Detach(SessionNo(link.session), detach, false),
-        )
+        let asked = endpoint.detach(&mut self.stream, handle, true, Some(error));
+        self.note(asked);
+        Ok(())
     }
 }
 
-/// Whether this is the link of a session and of a handle of the client's.
-pub fn is_link(link: LinkNames, session: u32, input: u32) -> bool {
-    link.session == session && link.input == Some(InputHandle(input))
-}
-
-/// The other end of a link.
-fn other_end(role: Role) -> Role {
-    match role {
-        Role::Sender => Role::Receiver,
-        Role::Receiver => Role::Sender,
+/// This side's role on a link, by the client's Attach.
+fn our_role(record: &Record) -> Role {
+    if flag::is_set(record.flags, flag::RECEIVER) {
+        Role::Sender
+    } else {
+        Role::Receiver
     }
 }
 
 /// The Attach that answers one of the client's: the same link, from its other end.
-fn answer_to(theirs: Attach, handle: Handle) -> Attach {
-    let role = other_end(theirs.role);
-    let is_sender = role == Role::Sender;
+fn answer_to(theirs: Attach, role: Role) -> Attach {
+    let most = match role {
+        Role::Sender => None,
+        Role::Receiver => Some(MOST_MESSAGE),
+    };
     Attach {
         snd_settle_mode: theirs.snd_settle_mode,
         rcv_settle_mode: theirs.rcv_settle_mode,
         source: theirs.source,
         target: theirs.target,
-        initial_delivery_count: if is_sender { Some(0) } else { None },
-        max_message_size: if is_sender { None } else { Some(MOST_MESSAGE) },
-        ..Attach::new(theirs.name, handle, role)
-    }
-}
-
-/// The Attach that a frame holds, if it is one.
-fn attach_of(alloc: Global, frame: Bytes) -> Option<Attach> {
-    match FrameDecoder::new().decode(alloc, frame) {
-        Ok((frame, rest)) => {
-            drop(rest);
-            attach_in(frame.into_body())
-        }
-        Err(_) => None,
-    }
-}
-
-fn attach_in(body: FrameBody) -> Option<Attach> {
-    match body {
-        FrameBody::Attach(attach) => Some(attach),
-        other => {
-            drop(other);
-            None
-        }
+        max_message_size: most,
+        ..Attach::new(theirs.name, Handle(0), role)
     }
 }

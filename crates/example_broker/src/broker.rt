@@ -1,121 +1,79 @@
-//! The broker: what a client's frames ask of a stream, and the queue.
+//! The broker: what a client's frames ask of a stream, and who does it.
 
-use crate::consumers::Consumer;
 use crate::faults::{begin_fault, fault_of, refused_fault};
-use crate::message::Message;
+use crate::giving::Consumer;
+use crate::queue::{MOST_UNSETTLED, Queue};
 use crate::senders::Sender;
-use crate::unsettled::{Unsettled, give_back};
-use amqp_driver::{EndAnswer, Record, Status, Stream, kind};
-use amqp_events::{EventRelay, Room, SharedQueue};
+use amqp_driver::{Asked, EndAnswer, PlainRelay, Record, Status, Stream, kind};
+use amqp_endpoints::{FlowWish, LinkEvent, SessionEndpoint};
 use amqp_sasl::Opening;
-use amqp_transport::{Came, Received, Round, exchange, push, write_waiting};
+use amqp_transport::{Came, Received, Round, exchange, write_waiting};
 use bytes::Bytes;
 use fe2o3_amqp::{
-    DEFAULT_CHANNEL_MAX, Engine, ErrorCondition, Input, KeyHash, Open, SessionNo, SessionSettings,
+    DEFAULT_CHANNEL_MAX, ErrorCondition, FrameBody, FrameDecoder, Input, KeyHash, Open, SessionNo,
+    SessionSettings,
 };
 use std::alloc::Global;
-use std::collections::VecDeque;
+use std::collections::BTreeMap;
 use std::io::{self, ErrorKind, Read, Write};
 
 /// The largest frame that this side takes.
 const MAX_FRAME_SIZE: u32 = 65536;
 
-/// How many messages may be sent and not settled. A disposition of the client's names no more, so the queue of events has room for so many.
-pub const MOST_UNSETTLED: usize = 2048;
-
-/// How many messages the queue holds before senders get no more credit.
-pub const MOST_QUEUED: usize = 16384;
-
-/// How many bytes of memory messages may take, about: those that wait, those that are sent and not settled, and those that are coming. A
-/// message that finds no room is released.
-pub const MOST_BYTES: usize = 67108864;
-
-/// What is left in the queue of events after each frame: nothing. So there is room for what one frame brings.
-const ROOM: Room = Room {
-    links: 1,
-    flows: 1,
-    transfers: 1,
-    dispositions: 2048,
-};
-
-pub type Relay = EventRelay<SharedQueue>;
-
-/// Whether the connection goes on.
-#[derive(Clone, Copy, PartialEq)]
-pub enum Progress {
-    On,
-    Over,
-}
-
-/// A session, by its number in the list: how many deliveries were sent on it.
-#[derive(Clone, Copy)]
-pub struct Served {
-    pub deliveries: u32,
-}
-
 /// A broker with one client.
 #[derive(Drop)]
 pub struct Broker {
     pub alloc: Global,
-    stream: Stream<Relay>,
-    received: Received,
-    pub events: SharedQueue,
-    /// The requests that are made before the next frame is taken.
-    pub inputs: VecDeque<Input<Relay>>,
-    pub sessions: Vec<Served>,
+    pub stream: Stream<PlainRelay>,
+    pub received: Received,
+    hash: KeyHash,
+    /// The number of the next session.
+    begun: u32,
+    /// The links of each session, by its number.
+    pub sessions: BTreeMap<u32, SessionEndpoint>,
     pub senders: Vec<Sender>,
     pub consumers: Vec<Consumer>,
-    pub queue: VecDeque<Message>,
-    pub unsettled: VecDeque<Unsettled>,
-    /// How many bytes of memory all messages take, about.
-    pub held: usize,
-    /// What the client did that it may not do, if anything.
+    pub queue: Queue,
+    /// How many deliveries have come and are not settled.
+    pub unsettled: usize,
+    /// What the client did that it may not do, if anything: the connection closes for it.
     pub fault: Option<ErrorCondition>,
 }
 
 impl Broker {
-    /// A broker whose queue is empty. By the hash its engine finds names, handles and channels that the client chooses.
+    /// A broker whose queue is empty. By the hash names, handles and channels are found that the client chooses.
     pub fn new(alloc: Global, hash: KeyHash) -> anyhow::Result<Broker> {
-        let events = SharedQueue::with_room(alloc, ROOM)?;
         let open = open(alloc)?;
         let stream = Stream::new(alloc, 0, None, Opening::plain(alloc), hash, open)?;
         Ok(Broker {
             alloc,
             stream,
             received: Received::new(alloc, MAX_FRAME_SIZE),
-            events,
-            inputs: VecDeque::new(alloc),
-            sessions: Vec::new(alloc),
+            hash,
+            begun: 0,
+            sessions: BTreeMap::new(alloc),
             senders: Vec::new(alloc),
             consumers: Vec::new(alloc),
-            queue: VecDeque::new(alloc),
-            unsettled: VecDeque::new(alloc),
-            held: 0,
+            queue: Queue::new(alloc),
+            unsettled: 0,
             fault: None,
         })
     }
 
     /// Opens, and takes frames until the client's Close, a fault of the client's, or the end of the input.
     pub fn serve<I: Read, O: Write>(&mut self, input: &mut I, output: &mut O) -> io::Result<()> {
-        push(&mut self.inputs, Input::Open)?;
-        let mut progress = self.run()?;
+        drop(self.stream.request(Input::Open));
         for _ in 0..u64::MAX {
-            if progress == Progress::Over {
+            if !self.round(input, output)? {
                 break;
             }
-            progress = self.round(input, output)?;
         }
         write_waiting(&mut self.stream, output)
     }
 
-    /// The engine: its sessions, and what the client's Open says.
-    pub fn engine(&self) -> &Engine<Relay> {
-        self.stream.engine()
-    }
-
-    /// One round: sends what waits, and takes a frame at most, for one record is all that there is room for. So the queue of events holds what one
-    /// frame brings.
-    fn round<I: Read, O: Write>(&mut self, input: &mut I, output: &mut O) -> io::Result<Progress> {
+    /// One round: sends what waits, and takes a frame at most, for one record is all that there is room for. So each is answered before the
+    /// next one is run. Whether the connection goes on.
+    fn round<I: Read, O: Write>(&mut self, input: &mut I, output: &mut O) -> io::Result<bool> {
         let mut records = [Record::empty()];
         let round = exchange(
             &mut self.stream,
@@ -125,106 +83,141 @@ impl Broker {
             input,
             output,
         )?;
-        let progress = self.take_round(round, &records[0])?;
+        let goes_on = self.take_round(round, &records[0])?;
         self.received.take(round.taken.taken);
-        Ok(progress)
+        Ok(goes_on)
     }
 
-    fn take_round(&mut self, round: Round, record: &Record) -> io::Result<Progress> {
+    fn take_round(&mut self, round: Round, record: &Record) -> io::Result<bool> {
         if round.taken.status == Status::NoMemory {
             return Err(io::Error::from(ErrorKind::OutOfMemory));
         }
-        if round.taken.written > 0 && self.take(record)? == Progress::Over {
-            return Ok(Progress::Over);
+        if round.taken.written > 0 && !self.take(record)? {
+            return Ok(false);
         }
-        if round.came == Some(Came::End) || self.stream.is_over() {
-            return Ok(Progress::Over);
-        }
-        Ok(Progress::On)
+        Ok(round.came != Some(Came::End) && !self.stream.is_over())
     }
 
-    /// Makes the requests that wait. A fault closes the connection.
-    pub fn run(&mut self) -> io::Result<Progress> {
-        for _ in 0..self.inputs.len() {
-            let Some(input) = self.inputs.pop_front() else {
-                break;
-            };
-            let asked = self.stream.request(input);
-            if let Some(fault) = fault_of(asked) {
-                return self.fail(fault);
-            }
+    /// Takes a record; sends then what can be sent, what its link owes, and credit. A fault closes the connection.
+    fn take(&mut self, record: &Record) -> io::Result<bool> {
+        if record.kind == kind::CLOSED {
+            drop(self.stream.request(Input::Close(None)));
+            return Ok(false);
         }
+        let event = self.look_at(record)?;
+        self.deliver()?;
+        self.respond(record.session, event);
+        self.renew();
         if self.stream.driver().unfit() > 0 {
-            return self.fail(ErrorCondition::FrameSizeTooSmall);
+            self.fault = Some(ErrorCondition::FrameSizeTooSmall);
         }
-        Ok(Progress::On)
-    }
-
-    /// Closes the connection for a fault.
-    pub fn fail(&mut self, fault: ErrorCondition) -> io::Result<Progress> {
-        self.inputs.clear();
+        let Some(fault) = self.fault else {
+            return Ok(true);
+        };
         let error = fault.to_error(self.alloc)?;
         drop(self.stream.request(Input::Close(Some(error))));
-        Ok(Progress::Over)
+        Ok(false)
     }
 
-    /// Takes what a record tells: a Begin and an End of the client's are answered, an Attach allots a link, and of links events tell.
-    fn take(&mut self, record: &Record) -> io::Result<Progress> {
+    /// A Begin and an End of the client's are answered, an Attach makes a link; anything else is told to the links.
+    fn look_at(&mut self, record: &Record) -> io::Result<LinkEvent> {
         match record.kind {
-            kind::BEGIN_WANTED => self.take_begin(record),
-            kind::ATTACH_WANTED => self.take_attach(record),
-            kind::ENDED => self.take_end(SessionNo(record.session)),
-            kind::CLOSED => self.take_close(),
-            kind::REFUSED => self.fail(refused_fault(record.refusal)),
-            _ => self.take_events(),
+            kind::BEGIN_WANTED => self.take_begin(record)?,
+            kind::ATTACH_WANTED => self.take_attach(record)?,
+            kind::ENDED => self.take_end(record.session)?,
+            kind::REFUSED => self.fault = Some(refused_fault(record.refusal)),
+            _ => return self.tell(record),
         }
+        Ok(LinkEvent::Nothing)
     }
 
-    fn take_close(&mut self) -> io::Result<Progress> {
-        drop(self.stream.request(Input::Close(None)));
-        Ok(Progress::Over)
-    }
-
-    /// The bytes of the frame that a record tells of, behind its size.
-    pub fn frame_of(&self, record: &Record) -> io::Result<Bytes> {
-        Ok(Bytes::copy_from_slice(self.alloc, frame_in(self.received.bytes(), record))?)
+    /// What the frame of a record says, if it can be read.
+    pub fn body_in(&self, record: &Record) -> io::Result<Option<FrameBody>> {
+        let frame = frame_in(self.received.bytes(), record);
+        let frame = Bytes::copy_from_slice(self.alloc, frame)?;
+        match FrameDecoder::new().decode(self.alloc, frame) {
+            Ok((frame, rest)) => {
+                drop(rest);
+                Ok(Some(frame.into_body()))
+            }
+            Err(_) => Ok(None),
+        }
     }
 
     /// A session that the client begins is one that this side's engine begins.
-    fn take_begin(&mut self, record: &Record) -> io::Result<Progress> {
-        let Ok(number) = u32::try_from(self.sessions.len()) else {
-            return self.fail(ErrorCondition::ResourceLimitExceeded);
-        };
-        self.sessions.push(Served { deliveries: 0 })?;
+    fn take_begin(&mut self, record: &Record) -> io::Result<()> {
+        let number = self.begun;
+        self.begun = number.saturating_add(1);
+        let endpoint = SessionEndpoint::new(self.alloc, SessionNo(number), self.hash);
+        drop(self.sessions.insert(number, endpoint)?);
         let answer = self.stream.answer_begin(
             frame_in(self.received.bytes(), record),
             SessionNo(number),
             SessionSettings::default(),
         );
-        match begin_fault(answer) {
-            None => Ok(Progress::On),
-            Some(fault) => self.fail(fault),
+        self.fault = begin_fault(answer);
+        Ok(())
+    }
+
+    /// The session is over on both sides, and so are its links.
+    fn take_end(&mut self, number: u32) -> io::Result<()> {
+        let answer = self.stream.answer_end(SessionNo(number), None);
+        if !matches!(&answer, EndAnswer::Done) {
+            self.fault = Some(ErrorCondition::ResourceLimitExceeded);
+        }
+        drop(answer);
+        self.leave_session(number)
+    }
+
+    /// What the link of an event owes for it: credit is granted elsewhere, and what a receiver asked for is answered behind its messages.
+    pub fn respond(&mut self, session: u32, event: LinkEvent) {
+        let is_owed = match event {
+            LinkEvent::Fault { .. } | LinkEvent::Ended { .. } => true,
+            LinkEvent::Flow { handle, used: _ } => self.place_of(session, handle).is_some(),
+            _ => false,
+        };
+        if !is_owed {
+            return;
+        }
+        let Some(endpoint) = self.sessions.get_mut(&session) else {
+            return;
+        };
+        let asked = endpoint.respond(&mut self.stream, &event, 0);
+        self.note(asked);
+    }
+
+    /// A link says what it is to say, if anything.
+    pub fn say(&mut self, session: u32, handle: u32, wish: FlowWish) {
+        let Some(endpoint) = self.sessions.get_mut(&session) else {
+            return;
+        };
+        let asked = endpoint.say(&mut self.stream, handle, wish);
+        self.note(asked);
+    }
+
+    /// Grants credit to the links on which the client sends, where it is due, and while there is room for messages.
+    fn renew(&mut self) {
+        if !self.queue.has_room() || self.unsettled >= MOST_UNSETTLED {
+            return;
+        }
+        for at in 0..self.senders.len() {
+            let Some(sender) = self.senders.get(at) else {
+                return;
+            };
+            let (session, handle) = (sender.session, sender.handle);
+            self.say(session, handle, FlowWish::Renew);
         }
     }
 
-    /// The session is over on both sides: its number stays used, and messages that were sent on it and not settled go back.
-    fn take_end(&mut self, number: SessionNo) -> io::Result<Progress> {
-        let is_done = is_done(self.stream.answer_end(SessionNo(number.0), None));
-        if !is_done {
-            return self.fail(ErrorCondition::ResourceLimitExceeded);
+    /// What was asked for, if anything, is done, or a fault.
+    pub fn note(&mut self, asked: Option<Asked>) {
+        let Some(asked) = asked else {
+            return;
+        };
+        if let Some(fault) = fault_of(asked) {
+            self.fault = Some(fault);
         }
-        self.drop_senders(number.0, None);
-        self.consumers.retain(|it| it.session != number.0);
-        give_back(&mut self.unsettled, number.0, None, &mut self.queue)?;
-        self.go_on()
     }
-}
-
-/// Whether a session is over on both sides.
-fn is_done(answer: EndAnswer) -> bool {
-    let is_done = matches!(&answer, EndAnswer::Done);
-    drop(answer);
-    is_done
 }
 
 /// This side's Open.

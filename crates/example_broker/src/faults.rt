@@ -1,8 +1,7 @@
 //! Faults: for which condition the connection is closed (AMQP 1.0 part 2, sections 2.8.15 to 2.8.18).
 
 use amqp_driver::{Asked, BeginAnswer, answer_by_number};
-use amqp_transport::TurnError;
-use fe2o3_amqp::frames::Error as FrameError;
+use amqp_endpoints::AttachError;
 use fe2o3_amqp::{ConnectionState, ErrorCondition, PeerAnswer, StepError, answer_to};
 
 /// The fault of a frame that was refused, by the number of its refusal.
@@ -20,13 +19,23 @@ pub fn fault_of(asked: Asked) -> Option<ErrorCondition> {
     }
 }
 
+/// The fault of an Attach that was not answered. Without a handle the fault is that of the request for one.
+pub fn attach_fault(error: AttachError) -> Option<ErrorCondition> {
+    match error {
+        AttachError::NoLink => Some(ErrorCondition::NotAllowed),
+        AttachError::InUse => Some(ErrorCondition::HandleInUse),
+        AttachError::OutOfMemory => Some(ErrorCondition::ResourceLimitExceeded),
+        AttachError::Asked(asked) => fault_of(asked),
+    }
+}
+
 /// The fault of a Begin, if it was not answered.
 pub fn begin_fault(answer: BeginAnswer) -> Option<ErrorCondition> {
     match answer {
         BeginAnswer::Done => None,
-        BeginAnswer::Unread(error) => Some(turn_fault(error)),
         BeginAnswer::NotOpened | BeginAnswer::ChannelInUse => Some(ErrorCondition::IllegalState),
         BeginAnswer::TooLarge => Some(ErrorCondition::FrameSizeTooSmall),
+        BeginAnswer::Unread(_) => Some(ErrorCondition::DecodeError),
         BeginAnswer::Refused(error) => Some(step_fault(error)),
         BeginAnswer::NoMemory | BeginAnswer::Lost | BeginAnswer::Broken => {
             Some(ErrorCondition::ResourceLimitExceeded)
@@ -44,17 +53,5 @@ fn condition_of(answer: Option<PeerAnswer>) -> ErrorCondition {
     match answer {
         Some(PeerAnswer::End(condition)) | Some(PeerAnswer::Close(condition)) => condition,
         None => ErrorCondition::NotAllowed,
-    }
-}
-
-fn turn_fault(error: TurnError) -> ErrorCondition {
-    match error {
-        TurnError::NoBegin => ErrorCondition::IllegalState,
-        TurnError::HasRemoteChannel => ErrorCondition::NotFound,
-        TurnError::Frame(FrameError::OutOfMemory) => ErrorCondition::ResourceLimitExceeded,
-        TurnError::Frame(error) => {
-            drop(error);
-            ErrorCondition::DecodeError
-        }
     }
 }

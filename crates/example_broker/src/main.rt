@@ -6,13 +6,12 @@
 
 mod attaching;
 mod broker;
-mod consumers;
 mod faults;
+mod giving;
 mod message;
-mod outcome;
+mod queue;
 mod senders;
 mod taking;
-mod unsettled;
 
 use broker::Broker;
 use fe2o3_amqp::KeyHash;

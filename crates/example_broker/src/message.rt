@@ -1,54 +1,56 @@
-//! A message: what its transfers carried, in order. No byte of it is copied.
+//! A message: its number, which is the tag of its deliveries, and its bytes.
 
-use bytes::Bytes;
 use std::alloc::{AllocError, Global};
 
-/// How many bytes of memory a part takes beside its own, about: its place, and what else stood in its frame.
-const PART: usize = 192;
+/// How many bytes the tag has.
+pub const TAG: u16 = 8;
 
-/// A message, in the parts in which it came.
+/// How many bytes of memory a message takes beside its own, about.
+const BESIDE: usize = 192;
+
+/// A message, as far as it has come.
 #[derive(Drop)]
 pub struct Message {
-    parts: Vec<Bytes>,
-    len: usize,
+    number: u64,
+    /// The tag, and then what came: as a delivery is sent.
+    bytes: Vec<u8>,
 }
 
 impl Message {
-    /// A message of no part yet.
-    pub fn new(alloc: Global) -> Message {
-        Message {
-            parts: Vec::new(alloc),
-            len: 0,
-        }
+    /// A message of which nothing has come.
+    pub fn new(alloc: Global, number: u64) -> Result<Message, AllocError> {
+        let mut bytes = Vec::new(alloc);
+        bytes.extend_from_slice(&number.to_be_bytes())?;
+        Ok(Message { number, bytes })
     }
 
-    /// Puts a part after the others. One of no bytes is left out, but for the first.
-    pub fn push(&mut self, part: Bytes) -> Result<(), AllocError> {
-        if part.is_empty() && !self.parts.is_empty() {
-            return Ok(());
-        }
-        let len = part.len();
-        self.parts.reserve(1)?;
-        self.parts.push(part)?;
-        self.len = self.len.saturating_add(len);
-        Ok(())
+    /// Puts a part behind the others.
+    pub fn push(&mut self, part: &[u8]) -> Result<(), AllocError> {
+        self.bytes.extend_from_slice(part)
     }
 
-    /// How many bytes it has.
-    pub fn len(&self) -> usize {
-        self.len
+    /// It is whole: it takes no more memory than it has bytes.
+    pub fn end(&mut self) {
+        self.bytes.shrink_to_fit();
+    }
+
+    pub fn number(&self) -> u64 {
+        self.number
+    }
+
+    /// Its tag, and its own bytes.
+    pub fn bytes(&self) -> &[u8] {
+        self.bytes.as_slice()
+    }
+
+    /// How many bytes of its own it has.
+    pub fn size(&self) -> u32 {
+        let size = self.bytes.len().saturating_sub(TAG as usize);
+        u32::try_from(size).unwrap_or(u32::MAX)
     }
 
     /// How many bytes of memory it takes, about.
     pub fn weight(&self) -> usize {
-        self.parts
-            .len()
-            .saturating_mul(PART)
-            .saturating_add(self.len)
-    }
-
-    /// The parts.
-    pub fn parts(&self) -> &[Bytes] {
-        self.parts.as_slice()
+        self.bytes.capacity().saturating_add(BESIDE)
     }
 }

@@ -1,272 +1,316 @@
-//! What the engine tells by events, and what the broker does for it.
+//! What comes for the links of a session, and what the broker does for it.
 
-use crate::attaching::is_link;
-use crate::broker::{Broker, MOST_BYTES, MOST_QUEUED, MOST_UNSETTLED, Progress};
-use crate::message::Message;
-use crate::outcome::is_given_back;
-use crate::senders::{Arrived, Taken};
-use crate::unsettled::{Unsettled, number_of, put_first, take};
-use amqp_events::{Event, EventBody, LinkNames};
-use amqp_transport::push;
-use bytes::Bytes;
+use crate::broker::Broker;
+use amqp_driver::{Record, flag, kind};
+use amqp_endpoints::{LinkEvent, RecordError, SessionEndpoint};
+use amqp_links::{Entry, Part, ReceivedPart};
 use fe2o3_amqp::{
-    DeliveryTag, ErrorCondition, Input, LinkFlow, Raw, Role, SessionNo, Transfer, is_terminal,
+    ErrorCondition, FrameBody, Input, Raw, ReceiverSettleMode, Role, SessionNo, is_terminal,
 };
-use std::io;
+use std::io::{self, ErrorKind};
+
+/// The outcomes that records know, and that this broker gives (AMQP 1.0 part 3, section 3.4).
+const ACCEPTED: u8 = 1;
+
+const RELEASED: u8 = 3;
+
+const MODIFIED: u8 = 4;
+/// The outcome of a record for a state that it knows by no number.
+const OTHER: u8 = 6;
+
+/// Which deliveries are unsettled no more, of those that this side has this role in: a range of them, those of a link, or all.
+#[derive(Clone, Copy)]
+enum Closed {
+    Range(Role, u32, u32),
+    Link(Role, u32),
+    Session(Role),
+}
+
+impl Closed {
+    fn role(self) -> Role {
+        match self {
+            Closed::Range(role, _, _) | Closed::Link(role, _) | Closed::Session(role) => role,
+        }
+    }
+
+    /// The oldest that is left.
+    fn next_of(self, endpoint: &mut SessionEndpoint) -> Option<Entry> {
+        match self {
+            Closed::Range(role, first, last) => endpoint.settled_next(role, first, last),
+            Closed::Link(_, handle) => endpoint.left_next(handle),
+            Closed::Session(Role::Sender) => endpoint.left_of_sent(),
+            Closed::Session(Role::Receiver) => endpoint.left_of_received(),
+        }
+    }
+}
 
 impl Broker {
-    /// Does what the events of a frame ask.
-    pub fn take_events(&mut self) -> io::Result<Progress> {
-        for _ in 0..self.events.len() {
-            let Some(event) = self.events.pop() else {
-                break;
-            };
-            self.take_event(event)?;
+    /// A record is told to the links of its session.
+    pub fn tell(&mut self, record: &Record) -> io::Result<LinkEvent> {
+        let Some(endpoint) = self.sessions.get_mut(&record.session) else {
+            return Ok(LinkEvent::Nothing);
+        };
+        match endpoint.on_record(record, 0) {
+            Ok(event) => {
+                self.take_event(record, event)?;
+                Ok(event)
+            }
+            Err(RecordError::OutOfMemory) => Err(io::Error::from(ErrorKind::OutOfMemory)),
+            Err(RecordError::NotNext) => {
+                self.fault = Some(ErrorCondition::InvalidField);
+                Ok(LinkEvent::Nothing)
+            }
         }
-        if let Some(fault) = self.fault {
-            return self.fail(fault);
-        }
-        if self.events.missed() > 0 {
-            return self.fail(ErrorCondition::ResourceLimitExceeded);
-        }
-        self.go_on()
     }
 
-    /// Sends what can be sent, grants credit, and runs that.
-    pub fn go_on(&mut self) -> io::Result<Progress> {
-        self.deliver()?;
-        self.answer_flows()?;
-        self.grant()?;
-        self.run()
-    }
-
-    fn take_event(&mut self, event: Event) -> io::Result<()> {
-        let link = event.link;
-        match event.body {
-            EventBody::Attached(attach) => {
-                drop(attach);
+    fn take_event(&mut self, record: &Record, event: LinkEvent) -> io::Result<()> {
+        let session = record.session;
+        match event {
+            LinkEvent::Part { handle, part } => self.take_part(record, handle, part),
+            LinkEvent::Settled { role, first, last } => {
+                self.take_settled(record, role, first, last)
+            }
+            LinkEvent::Fault { handle, fault: _ } => {
+                self.drop_coming(session, handle);
                 Ok(())
             }
-            EventBody::Flow(flow) => {
-                self.take_flow(link, &flow);
-                drop(flow);
-                Ok(())
+            LinkEvent::Ended { handle, .. } => {
+                self.respond(session, event);
+                self.leave_link(session, handle)
             }
-            EventBody::Transfer {
-                performative,
-                payload,
-            } => self.take_transfer(link, performative, payload),
-            EventBody::Disposition {
-                role: _,
-                settled,
-                state,
-                tag,
-            } => {
-                let done = self.take_disposition(link, settled, state.as_ref(), &tag);
-                drop(state);
-                drop(tag);
-                done
-            }
-            EventBody::Detached {
-                detach,
-                remote_initiated: _,
-            } => {
-                let closed = detach.closed;
-                drop(detach);
-                self.take_detach(link, closed)
-            }
+            LinkEvent::Nothing if record.kind == kind::DISPOSITION => self.take_named(record),
+            _ => Ok(()),
         }
     }
 
-    fn take_flow(&mut self, link: LinkNames, flow: &LinkFlow) {
-        for it in self.consumers.iter_mut() {
-            if is_link(link, it.session, it.input) {
-                it.take_flow(flow);
-            }
+    /// A part of a message. One that is whole is accepted, or released where the queue has no room for it; and it is settled, unless the client
+    /// settles first.
+    fn take_part(&mut self, record: &Record, handle: u32, told: ReceivedPart) -> io::Result<()> {
+        let part = told.part;
+        if part.is_first && !part.settled {
+            self.unsettled = self.unsettled.saturating_add(1);
         }
-    }
-
-    /// A transfer: a message that it ends goes into the queue, and is accepted.
-    fn take_transfer(
-        &mut self,
-        link: LinkNames,
-        transfer: Transfer,
-        payload: Bytes,
-    ) -> io::Result<()> {
-        let is_full = self.held >= MOST_BYTES;
-        for it in self.senders.iter_mut() {
-            if is_link(link, it.session, it.input) {
-                let before = it.weight();
-                let taken = it.take(self.alloc, transfer, payload, is_full)?;
-                self.held = self.held.saturating_sub(before).saturating_add(it.weight());
-                return self.take_message(SessionNo(link.session), taken);
-            }
+        if told.settled.is_some() {
+            self.unsettled = self.unsettled.saturating_sub(1);
         }
-        drop(transfer);
-        drop(payload);
-        Ok(())
-    }
-
-    fn take_message(&mut self, number: SessionNo, taken: Taken) -> io::Result<()> {
-        match taken {
-            Taken::GoesOn => Ok(()),
-            Taken::Arrived(arrived) => self.keep(number, arrived),
-            Taken::Fault(fault) => {
-                self.fault = Some(fault);
-                Ok(())
-            }
-        }
-    }
-
-    /// A message that came goes into the queue, and the client is told.
-    fn keep(&mut self, number: SessionNo, arrived: Arrived) -> io::Result<()> {
-        let Arrived { message, answer } = arrived;
-        if let Some(message) = message {
-            self.held = self.held.saturating_add(message.weight());
-            push(&mut self.queue, message)?;
-        }
-        match answer {
-            None => Ok(()),
-            Some(disposition) => push(&mut self.inputs, Input::Disposition(number, disposition)),
-        }
-    }
-
-    /// What the client says of a message that was sent: with an outcome it is done with, or goes back to the front of the queue.
-    fn take_disposition(
-        &mut self,
-        link: LinkNames,
-        settled: bool,
-        state: Option<&Raw>,
-        tag: &DeliveryTag,
-    ) -> io::Result<()> {
-        let is_over = settled || state.is_some_and(|state| is_terminal(state));
-        let Some(number) = number_of(&tag.0) else {
+        let Some(at) = self.place_of(record.session, handle) else {
             return Ok(());
         };
+        let waits = self.waits(at, record, part)?;
+        let Some(sender) = self.senders.get_mut(at) else {
+            return Ok(());
+        };
+        sender.waits = waits;
+        let payload = payload_in(self.received.bytes(), record);
+        let taken = sender.take(&mut self.queue, part, payload)?;
+        match taken {
+            Some(is_kept) if !part.settled => {
+                self.answer(record.session, part.number, is_kept, !waits)
+            }
+            _ => Ok(()),
+        }
+    }
+
+    /// Whether the client settles a delivery first: as its first transfer says, or else its link.
+    fn waits(&self, at: usize, record: &Record, part: Part) -> io::Result<bool> {
+        let Some(sender) = self.senders.get(at) else {
+            return Ok(false);
+        };
+        if !part.is_first || !sender.is_second {
+            return Ok(sender.waits && !part.is_first);
+        }
+        match self.body_in(record)? {
+            Some(
+                FrameBody::Transfer {
+                    performative,
+                    payload,
+                },
+            ) => {
+                let mode = performative.rcv_settle_mode;
+                drop(performative);
+                drop(payload);
+                Ok(mode != Some(ReceiverSettleMode::First))
+            }
+            other => {
+                drop(other);
+                Ok(true)
+            }
+        }
+    }
+
+    /// The client is told what became of a message of its.
+    fn answer(
+        &mut self,
+        session: u32,
+        number: u32,
+        is_kept: bool,
+        is_settled: bool,
+    ) -> io::Result<()> {
+        let Some(endpoint) = self.sessions.get_mut(&session) else {
+            return Ok(());
+        };
+        let outcome = if is_kept { ACCEPTED } else { RELEASED };
+        let asked = endpoint.settle(
+            &mut self.stream,
+            Role::Receiver,
+            number,
+            number,
+            is_settled,
+            outcome,
+        );
+        self.note(asked);
+        if !is_settled {
+            return Ok(());
+        }
+        let closed = Closed::Range(Role::Receiver, number, number);
+        self.close(session, closed, false)
+    }
+
+    /// The client settles deliveries. Where it leaves it to this side, the relay has answered; and the session lets them go.
+    fn take_settled(
+        &mut self,
+        record: &Record,
+        role: Role,
+        first: u32,
+        last: u32,
+    ) -> io::Result<()> {
+        let is_back = self.is_given_back(record)?;
+        if !flag::is_set(record.flags, flag::SETTLED) {
+            let input = Input::Settle(SessionNo(record.session), Role::Sender, first, Some(last));
+            let asked = self.stream.request(input);
+            self.note(Some(asked));
+        }
+        self.close(record.session, Closed::Range(role, first, last), is_back)
+    }
+
+    /// A state that has a name, and no number, is told as no outcome. Where it is one all the same, the relay has answered.
+    fn take_named(&mut self, record: &Record) -> io::Result<()> {
+        if record.outcome != OTHER || !flag::is_set(record.flags, flag::RECEIVER) {
+            return Ok(());
+        }
+        let Some(state) = self.named_state(record)? else {
+            return Ok(());
+        };
+        let is_over = is_terminal(&state);
+        drop(state);
         if !is_over {
             return Ok(());
         }
-        let Some(message) = take(&mut self.unsettled, link.session, number) else {
-            return Ok(());
+        self.take_settled(record, Role::Sender, record.first, record.last)
+    }
+
+    /// A link is over: what is left of it is given back, and its handle is free.
+    fn leave_link(&mut self, session: u32, handle: u32) -> io::Result<()> {
+        let role = match self.place_of(session, handle) {
+            Some(_) => Role::Receiver,
+            None => Role::Sender,
         };
-        if is_given_back(state) {
-            put_first(&mut self.queue, message)?;
-        } else {
-            self.let_go(message);
+        self.close(session, Closed::Link(role, handle), true)?;
+        if let Some(endpoint) = self.sessions.get_mut(&session) {
+            drop(endpoint.remove(handle));
         }
-        if settled {
-            return Ok(());
+        self.drop_coming(session, handle);
+        self.senders
+            .retain(|it| it.session != session || it.handle != handle);
+        self.consumers
+            .retain(|it| it.session != session || it.handle != handle);
+        Ok(())
+    }
+
+    /// A session is over: what is left of it is given back.
+    pub fn leave_session(&mut self, session: u32) -> io::Result<()> {
+        self.close(session, Closed::Session(Role::Sender), true)?;
+        self.close(session, Closed::Session(Role::Receiver), true)?;
+        for sender in self.senders.iter_mut() {
+            if sender.session == session {
+                sender.drop_coming(&mut self.queue);
+            }
         }
-        // the relay has answered by a settled disposition, after which nothing more comes of this delivery
-        push(
-            &mut self.inputs,
-            Input::Settle(SessionNo(link.session), Role::Sender, number, None),
-        )
+        self.senders.retain(|it| it.session != session);
+        self.consumers.retain(|it| it.session != session);
+        drop(self.sessions.remove(&session));
+        Ok(())
     }
 
-    /// A message that nobody waits for any more.
-    fn let_go(&mut self, message: Message) {
-        self.held = self.held.saturating_sub(message.weight());
-        drop(message);
-    }
-
-    /// The links of a session on which the client sends go, or one of them, with what is coming on them.
-    pub fn drop_senders(&mut self, session: u32, input: Option<u32>) {
-        let mut held = self.held;
-        self.senders.retain(|it| {
-            let goes = it.session == session && (input.is_none() || input == Some(it.input));
-            if goes {
-                held = held.saturating_sub(it.weight());
-            }
-            !goes
-        });
-        self.held = held;
-    }
-
-    /// Sends messages while a client's link has credit.
-    fn deliver(&mut self) -> io::Result<()> {
-        for _ in 0..self.queue.len() {
-            if self.unsettled.len() >= MOST_UNSETTLED {
-                return Ok(());
-            }
-            let Some(at) = self.next_consumer() else {
-                return Ok(());
-            };
-            let Some(message) = self.queue.pop_front() else {
+    /// Deliveries are unsettled no more. What was given with one that this side sent is the number of its message.
+    fn close(&mut self, session: u32, closed: Closed, is_back: bool) -> io::Result<()> {
+        let role = closed.role();
+        let most = match role {
+            Role::Sender => self.queue.unsettled(),
+            Role::Receiver => self.unsettled,
+        };
+        for _ in 0..most {
+            let Some(endpoint) = self.sessions.get_mut(&session) else {
                 return Ok(());
             };
-            self.send(at, message)?;
+            let Some(entry) = closed.next_of(endpoint) else {
+                return Ok(());
+            };
+            match role {
+                Role::Sender => self.queue.settle(entry.given, is_back)?,
+                Role::Receiver => self.unsettled = self.unsettled.saturating_sub(1),
+            }
         }
         Ok(())
     }
 
-    /// The place of a link with credit, which uses it.
-    fn next_consumer(&mut self) -> Option<usize> {
-        let mut at = 0usize;
-        for it in self.consumers.iter_mut() {
-            if it.use_credit() {
-                return Some(at);
-            }
-            at = at.saturating_add(1);
-        }
-        None
+    /// The place of a link on which the client sends.
+    pub fn place_of(&self, session: u32, handle: u32) -> Option<usize> {
+        self.senders
+            .iter()
+            .position(|it| it.session == session && it.handle == handle)
     }
 
-    /// Asks for the transfers of a message on the link at a place.
-    fn send(&mut self, at: usize, message: Message) -> io::Result<()> {
-        let Some(consumer) = self.consumers.get(at) else {
-            drop(message);
-            return Ok(());
+    fn drop_coming(&mut self, session: u32, handle: u32) {
+        let Some(at) = self.place_of(session, handle) else {
+            return;
         };
-        let consumer = *consumer;
-        let number = self.next_delivery(consumer.session);
-        let limit = self.engine().max_piece_len();
-        let asked = consumer.send(self.alloc, number, &message, limit, &mut self.inputs);
-        if consumer.is_settled || asked.is_err() {
-            self.let_go(message);
-            return asked;
+        if let Some(sender) = self.senders.get_mut(at) {
+            sender.drop_coming(&mut self.queue);
         }
-        push(
-            &mut self.unsettled,
-            Unsettled {
-                session: consumer.session,
-                input: consumer.input,
-                number,
-                message,
-            },
-        )
     }
 
-    /// The number of a session's next delivery: the engine numbers them in the order in which it is asked.
-    fn next_delivery(&mut self, session: u32) -> u32 {
-        let Some(served) = self.sessions.get_mut(session as usize) else {
-            return 0;
+    /// Whether the client gives messages back, "released" or "modified", so that somebody else may have them.
+    fn is_given_back(&self, record: &Record) -> io::Result<bool> {
+        if record.outcome != OTHER {
+            return Ok(record.outcome == RELEASED || record.outcome == MODIFIED);
+        }
+        let Some(state) = self.named_state(record)? else {
+            return Ok(false);
         };
-        let number = served.deliveries;
-        served.deliveries = number.wrapping_add(1);
-        number
+        let is_back = is_back(&state);
+        drop(state);
+        Ok(is_back)
     }
 
-    /// Sends the flows that clients wait for.
-    fn answer_flows(&mut self) -> io::Result<()> {
-        for it in self.consumers.iter_mut() {
-            if let Some(flow) = it.answer() {
-                push(&mut self.inputs, Input::Flow(SessionNo(it.session), flow))?;
+    /// The state of a disposition.
+    fn named_state(&self, record: &Record) -> io::Result<Option<Raw>> {
+        match self.body_in(record)? {
+            Some(FrameBody::Disposition(disposition)) => Ok(disposition.state),
+            other => {
+                drop(other);
+                Ok(None)
             }
         }
-        Ok(())
     }
+}
 
-    /// Grants credit to the links on which the client sends, while the queue has room.
-    fn grant(&mut self) -> io::Result<()> {
-        if self.queue.len() >= MOST_QUEUED || self.held >= MOST_BYTES {
-            return Ok(());
-        }
-        for it in self.senders.iter_mut() {
-            if let Some(flow) = it.grant() {
-                push(&mut self.inputs, Input::Flow(SessionNo(it.session), flow))?;
+/// Whether a state is "released" or "modified", by its name.
+fn is_back(state: &Raw) -> bool {
+    match state.view().descriptor() {
+        None => false,
+        Some(descriptor) => match descriptor.bytes() {
+            [0xa3, _, name @ ..] => {
+                name == b"amqp:released:list".as_slice() || name == b"amqp:modified:list".as_slice()
             }
-        }
-        Ok(())
+            _ => false,
+        },
     }
+}
+
+/// The payload that a record tells of.
+fn payload_in<'a>(received: &'a [u8], record: &Record) -> &'a [u8] {
+    let at = record.payload_at as usize;
+    let to = at.saturating_add(record.payload as usize);
+    received.get(at..to).unwrap_or(&[])
 }
