@@ -85,13 +85,13 @@ static void try_refusal_text(amqp1 *engine, uint32_t refusal, const char *wanted
 /* Each number of a refusal has a name, which is that of no number besides. */
 static void try_refusal_texts(amqp1 *engine)
 {
-    static const uint32_t groups[][2] = { { 1, 4 }, { 11, 15 }, { 21, 25 }, { 31, 37 }, { 41, 44 }, { 51, 55 }, { 61, 70 }, { 81, 85 }, { 91, 92 }, { 101, 108 } };
+    static const uint32_t groups[][2] = { { 1, 4 }, { 11, 15 }, { 21, 25 }, { 31, 37 }, { 41, 44 }, { 51, 55 }, { 61, 70 }, { 81, 85 }, { 91, 92 }, { 101, 108 }, { 111, 116 } };
     uint8_t text[128];
     size_t written = 0, group = 0;
     uint32_t refusal;
     for (refusal = 0; refusal < 200; refusal++) {
         int is_one;
-        if (group < 9 && refusal > groups[group][1])
+        if (group < 10 && refusal > groups[group][1])
             group++;
         is_one = refusal >= groups[group][0] && refusal <= groups[group][1];
         CHECK(amqp1_refusal_text(engine, refusal, text, sizeof text, &written) == AMQP1_DONE && (written > 0) == is_one);
@@ -101,6 +101,12 @@ static void try_refusal_texts(amqp1 *engine)
     try_refusal_text(engine, AMQP1_WHY_FRAME_DECODE_ERROR, "DecodeError\namqp:decode-error\nclose");
     try_refusal_text(engine, AMQP1_WHY_SESSION_UNATTACHED_HANDLE, "UnattachedHandle\namqp:session:unattached-handle\nend");
     try_refusal_text(engine, AMQP1_WHY_NO_SESSION, "NoSession\n\n");
+    try_refusal_text(engine, AMQP1_WHY_LINK_NO_SENDER, "NoSender\n\n");
+    try_refusal_text(engine, AMQP1_WHY_LINK_NOT_ATTACHED, "NotAttached\n\n");
+    try_refusal_text(engine, AMQP1_WHY_LINK_TOO_LARGE, "TooLarge\n\n");
+    try_refusal_text(engine, AMQP1_WHY_LINK_NONE_UNDER_WAY, "NoneUnderWay\n\n");
+    try_refusal_text(engine, AMQP1_WHY_LINK_NO_CREDIT, "NoCredit\n\n");
+    try_refusal_text(engine, AMQP1_WHY_LINK_NOT_NEXT, "NotNext\n\n");
 }
 
 /* What is a number of the engine's, or of a session's. */
