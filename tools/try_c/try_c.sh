@@ -1,8 +1,8 @@
 #!/usr/bin/env bash
 # Tries the library for C: its tests in C, by tools/try_c/amqp1_try.sh; what engines hold as frames come; the wrapper for Rust in two editions, where
 # there is a rustc. And over the shared library tools/try_c/try_c.py, the hostile peers of
-# tools/hostile, and tools/try_c/try_c_captures.py with every recorded connection; and the wheel with that library, by tools/try_c/try_c_wheel.py. What is
-# not tried here for want of a program is named, a line each. The last line is 'N passed, M failed'.
+# tools/hostile, and tools/try_c/try_c_captures.py and try_c_links_recorded.py with every recorded connection; and the wheel with that library, by
+# tools/try_c/try_c_wheel.py. What is not tried here for want of a program is named, a line each. The last line is 'N passed, M failed'.
 #
 #     tools/try_c/try_c.sh            builds the library first, by tools/build_c.sh
 #     tools/try_c/try_c.sh PREFIX     tries what build_c.sh put there
@@ -35,6 +35,7 @@ fi
 counts "over Python" timeout 600 python3 tools/try_c/try_c.py "$library/libamqp1.so"
 counts "hostile peers, over Python" timeout 180 python3 tools/hostile/hostile.py "$library/libamqp1.so"
 counts "what is refused of recorded connections" timeout 600 python3 tools/try_c/try_c_captures.py "$library/libamqp1.so"
+counts "links of recorded connections" timeout 120 python3 tools/try_c/try_c_links_recorded.py "$library/libamqp1.so"
 counts "the wheel and the sdist" timeout 600 python3 tools/try_c/try_c_wheel.py "$prefix"
 echo "$passed passed, $failed failed"
 [ "$failed" = 0 ]
