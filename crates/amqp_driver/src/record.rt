@@ -20,8 +20,8 @@ pub struct Record {
     /// What it is: one of [`kind`](crate::kind).
     pub kind: u8,
     /// The state of deliveries (part 3, section 3.4): 0 none, 1 accepted, 2 rejected, 3 released, 4 modified, 5 received, 6 any other one. It
-    /// is told by the number of its descriptor; a state that is described by a name is another one. Of an attach the termini that it has: 0 none, 1 a
-    /// source, 2 a target, 3 both. A peer that answers with no source, or no target, of its own refuses the link (section 2.6.3).
+    /// is told by its descriptor, the number or the name. Of an attach the termini that it has: 0 none, 1 a source, 2 a target, 3 both. A peer
+    /// that answers with no source, or no target, of its own refuses the link (section 2.6.3).
     pub outcome: u8,
     /// Those of [`flag`](crate::flag).
     pub flags: u16,

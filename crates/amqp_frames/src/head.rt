@@ -1,4 +1,4 @@
-//! HeaderPool of pieces: header and performative, each written into one buffer of a size known beforehand.
+//! Heads of pieces: header and performative, each written into one buffer of a size known beforehand.
 
 ghost use Rattle.std.specs.Prelude.{◌≡◌, ◌≤◌, ◌<◌, ◌+◌, ◌^◌, ◌++◌, IfOk, OnOk, OnErr, length};
 ghost use Rattle.amqp_memory.specs.Refusal.{SomeRefused};

@@ -1,6 +1,7 @@
 -- Part: other calls.
 -- Settlement on a session's links (AMQP 1.0 part 2, sections 2.6.12, 2.6.13 and 2.7.6).
 use Rattle.std.specs.Prelude.{ℕ, ◌≡◌, Option, Some, None}
+use Rattle.std.specs.List.{find}
 use Rattle.amqp_unsettled.specs.declared.entry.Entry.{Entry}
 use Rattle.amqp_unsettled.specs.Table.{TakeStep, is_any, is_in, is_of}
 use Rattle.amqp_links.specs.declared.end.End.{End}
@@ -32,6 +33,16 @@ abbrev pub LeavesNext : Option End → LinksView → ℕ → Option Entry → Li
 LeavesNext None v h given w = (given ≡ None) × (w ≡ v)
 LeavesNext (Some (Sending s)) v h given w = LeavesSent s.life v h given w
 LeavesNext (Some (Receiving s)) v h given w = LeavesReceived s.life v h given w
+
+-- the one that is taken out
+abbrev pub left_of : {X : Type 0} → Life → Option X → Option X
+left_of Detached e = e
+left_of life e = None
+
+abbrev pub left_at : Option End → LinksView → ℕ → Option Entry
+left_at None v h = None
+left_at (Some (Sending s)) v h = left_of s.life (find (is_of h) v.sent)
+left_at (Some (Receiving s)) v h = left_of s.life (find (is_of h) v.received)
 
 -- of the whole session: the oldest that was sent, and the oldest that has come
 abbrev pub LeavesSentOfAll : LinksView → Option Entry → LinksView → Type 0

@@ -146,6 +146,14 @@ impl Unsettled {
         Some(self.take_at(rank))
     }
 
+    /// The oldest unsettled delivery of a link, which [`Unsettled::remove_next_of`] takes out.
+    pub fn next_of(&self, link: u32) -> Option<Entry>
+        ensures { result ≡ find (is_of link) self.now }
+    {
+        let key = keys::first_of(&self.keys, self.base, link)?;
+        self.get(key.number)
+    }
+
     /// Takes out the oldest unsettled delivery of a link. Called until it answers `None`, it tells each delivery of a
     /// link that goes which is unsettled then (AMQP 1.0 part 2, section 2.6.13), once, in the order of their numbers.
     pub fn remove_next_of(&mut self, link: u32) -> Option<Entry>

@@ -1,5 +1,5 @@
 -- Part: the bytes; other calls.
--- The canonical texts: one spelling of each value, the shortest of its type.
+-- The canonical texts: one spelling of each value.
 use Rattle.std.specs.Prelude.{ℕ, ◌+◌, List, [], ◌∷◌, ◌++◌, length, map, Bool, true, false, nat_lt, ◌==◌, ◌&&◌, not}
 use Rattle.std.specs.Prelude.{if◌then◌else◌, Option, Some, None, Result, Ok, Err}
 use Rattle.std.specs.List.{list_all}

@@ -1,9 +1,9 @@
 //! Settlement: what is unsettled is settled, or left where its link goes.
 
 ghost use Rattle.std.specs.Prelude.{◌≡◌, find};
-ghost use Rattle.amqp_unsettled.specs.Table.{has_number};
+ghost use Rattle.amqp_unsettled.specs.Table.{has_number, is_of};
 ghost use Rattle.amqp_links.specs.Ends.{end_at};
-ghost use Rattle.amqp_links.specs.Settling.{SettlesSent, SettlesReceived, LeavesSent, LeavesReceived, LeavesNext, LeavesSentOfAll, LeavesReceivedOfAll};
+ghost use Rattle.amqp_links.specs.Settling.{SettlesSent, SettlesReceived, LeavesSent, LeavesReceived, LeavesNext, LeavesSentOfAll, LeavesReceivedOfAll, left_at, left_of};
 
 use super::SessionLinks;
 use crate::end::End;
@@ -50,6 +50,34 @@ impl SessionLinks {
         match self.end(handle)? {
             End::Sending(link) => self.left_sent(link.life(), handle),
             End::Receiving(link) => self.left_received(link.life(), handle),
+        }
+    }
+
+    /// The delivery that [`SessionLinks::left_next`] takes out.
+    pub fn left(&self, handle: u32) -> Option<Entry>
+        ensures { result ≡ left_at (end_at self.now.ends handle) self.now handle }
+    {
+        match self.end(handle)? {
+            End::Sending(link) => self.sent_left(link.life(), handle),
+            End::Receiving(link) => self.received_left(link.life(), handle),
+        }
+    }
+
+    fn sent_left(&self, life: Life, handle: u32) -> Option<Entry>
+        ensures { result ≡ left_of life (find (is_of handle) self.now.sent) }
+    {
+        match life {
+            Life::Detached => self.sent.next_of(handle),
+            _ => None,
+        }
+    }
+
+    fn received_left(&self, life: Life, handle: u32) -> Option<Entry>
+        ensures { result ≡ left_of life (find (is_of handle) self.now.received) }
+    {
+        match life {
+            Life::Detached => self.received.next_of(handle),
+            _ => None,
         }
     }
 
