@@ -100,7 +100,7 @@ manual() {
 
 mkdir -p "$out/lib"
 object_of amqp1 amqp1_{new,call,take,answer,heard,tick,send,cut,free,version} \
-    amqp1_link_{attach,wanted,event,respond,flow,detach,send,settle,settled,left,left_of,remove,forget,credit}
+    amqp1_link_{attach,wanted,event,due,respond,flow,detach,send,settle,dispose,settled,left,left_of,remove,forget,credit}
 cc -std=c99 -O2 -fPIC -ffunction-sections -Wall -Wextra -Wpedantic -Werror -c include/amqp1/library.c -o "$folder/amqp1_header.o"
 library_of amqp1 libamqp1.so.1 "$folder/amqp1.o" "$folder/amqp1_header.o"
 cmake_of "$(sed -n 's/^#define AMQP1_VERSION "\(.*\)"$/\1/p' include/amqp1.h)"

@@ -25,6 +25,8 @@ pub enum Error {
     NoLink,
     /// The handle has a link already.
     InUse,
+    /// Transfers of the link wait for the peer's window.
+    HeldBack,
     /// What this version of the library does not answer.
     Unknown(i32),
 }
@@ -53,6 +55,7 @@ impl Error {
             21 => Error::NotNext,
             22 => Error::NoLink,
             23 => Error::InUse,
+            24 => Error::HeldBack,
             status => Error::Unknown(status),
         }
     }
@@ -71,6 +74,7 @@ impl fmt::Display for Error {
             Error::NotNext => to.write_str("the delivery's number is not the next one"),
             Error::NoLink => to.write_str("no link has the handle, or no handle the name"),
             Error::InUse => to.write_str("the handle has a link already"),
+            Error::HeldBack => to.write_str("transfers of the link wait for the peer's window"),
             Error::Unknown(status) => write!(to, "unknown status {status}"),
         }
     }

@@ -39,9 +39,12 @@ pub enum EventKind {
     /// The peer did what it may not do: this side ends the link for it, by [`Engine::link_respond`](super::Engine::link_respond).
     Fault(Fault),
     /// The deliveries from `first` to `last` are settled: [`Engine::link_settled`](super::Engine::link_settled) gives each of them back. `role` is this side's.
-    Settled { role: Role, first: u32, last: u32 },
+    /// `by_peer`: the peer has settled them; else this side has, in answer to a terminal outcome.
+    Settled { role: Role, first: u32, last: u32, by_peer: bool },
     /// The peer's Detach has come. `for_good`: it closes the link (section 2.6.6).
     Ended { end: LinkEnd, for_good: bool },
+    /// A call of the link was answered `HeldBack`, and may be made again: [`Engine::link_due`](super::Engine::link_due) tells it.
+    Due,
     /// An event of a later version: pass over it.
     Other(u32),
 }
@@ -134,12 +137,13 @@ impl Event {
             }
             6 => {
                 let role = if self.says(64) { Role::Receiver } else { Role::Sender };
-                EventKind::Settled { role, first: self.first, last: self.last }
+                EventKind::Settled { role, first: self.first, last: self.last, by_peer: self.says(128) }
             }
             7 => {
                 let end = one(&[E::Refused, E::ByPeer, E::Answered, E::Stray], 0, self.detail)?;
                 EventKind::Ended { end, for_good: self.says(32) }
             }
+            8 => EventKind::Due,
             _ => return None,
         })
     }

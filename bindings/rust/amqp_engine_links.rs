@@ -117,14 +117,16 @@ struct ToldInC {
 const _: () = assert!(size_of::<ToldInC>() == 24);
 
 unsafe extern "C" {
-    fn amqp1_link_attach(place: *mut Place, session: u32, attach: *const u8, length: usize, low: u32, high: u32, link: *mut u32) -> i32;
+    fn amqp1_link_attach(place: *mut Place, session: u32, attach: *const u8, length: usize, name: *const u8, name_length: usize, low: u32, high: u32, link: *mut u32) -> i32;
     fn amqp1_link_wanted(place: *mut Place, record: *const Record, link: u32, event: *mut Event) -> i32;
     fn amqp1_link_event(place: *mut Place, record: *const Record, given: u64, event: *mut Event) -> i32;
+    fn amqp1_link_due(place: *mut Place, session: u32, event: *mut Event) -> i32;
     fn amqp1_link_respond(place: *mut Place, event: *const Event, available: u32) -> i32;
     fn amqp1_link_flow(place: *mut Place, session: u32, link: u32, wish: u32, number: u32) -> i32;
     fn amqp1_link_detach(place: *mut Place, session: u32, link: u32, closed: u32, error: *const u8, length: usize) -> i32;
     fn amqp1_link_send(place: *mut Place, head: *const TransferHead, bytes: *const u8, length: usize, given: u64, told: *mut ToldInC) -> i32;
     fn amqp1_link_settle(place: *mut Place, session: u32, role: u32, first: u32, last: u32, settled: u32, outcome: u8) -> i32;
+    fn amqp1_link_dispose(place: *mut Place, session: u32, disposition: *const u8, length: usize) -> i32;
     fn amqp1_link_settled(place: *mut Place, session: u32, role: u32, first: u32, last: u32, delivery: *mut Unsettled) -> i32;
     fn amqp1_link_left(place: *mut Place, session: u32, link: u32, delivery: *mut Unsettled) -> i32;
     fn amqp1_link_left_of(place: *mut Place, session: u32, role: u32, delivery: *mut Unsettled) -> i32;
@@ -159,8 +161,17 @@ impl Engine {
     /// `BadArgument`: the bytes are no Attach. `NoLink`: no handle is allotted to the name. `InUse`: its handle has an end, which [`Engine::link_remove`]
     /// takes away. `NoMemory`: nothing changed, ask again. `Refused`: the Attach was.
     pub fn link_attach(&mut self, session: u32, attach: &[u8], low: u32, high: u32) -> Result<u32, Error> {
+        self.link_attach_under(session, "", attach, low, high)
+    }
+
+    /// The same of a link whose handle was allotted to this name, and not to the Attach's own. A server needs it whose clients give one name to a sender and a
+    /// receiver: it marks the names.
+    pub fn link_attach_under(&mut self, session: u32, name: &str, attach: &[u8], low: u32, high: u32) -> Result<u32, Error> {
         let mut link = NONE;
-        let status = unsafe { amqp1_link_attach(&mut self.place, session, attach.as_ptr(), attach.len(), low, high, &mut link) };
+        let place = &mut self.place;
+        let status = unsafe {
+            amqp1_link_attach(place, session, attach.as_ptr(), attach.len(), name.as_ptr(), name.len(), low, high, &mut link)
+        };
         self.outcome(status).map(|()| link)
     }
 
@@ -182,14 +193,24 @@ impl Engine {
     }
 
     /// Sends what a link owes for an event: a flow, where credit is to be renewed or the peer asked for one; a Detach, in answer to the peer's, or for a
-    /// fault. `available` is how many messages are ready to be sent on the link. False where it owes nothing. `NoMemory`: ask again. `Refused`: it was.
+    /// fault. `available` is how many messages are ready to be sent on the link. False where it owes nothing. `HeldBack`: it owes it still, and
+    /// [`Engine::link_due`] tells when it is to be called again. `NoMemory`: ask again. `Refused`: it was.
     pub fn link_respond(&mut self, event: &Event, available: u32) -> Result<bool, Error> {
         let status = unsafe { amqp1_link_respond(&mut self.place, event, available) };
         self.is_done(status)
     }
 
+    /// A link of the session of which a call was answered `HeldBack`, once all that had been sent in the session by then has gone out: an event of `Due`, for
+    /// [`Engine::link_respond`]. Called after each record until it answers `None`, it tells each such link once, in the order of the calls.
+    pub fn link_due(&mut self, session: u32) -> Result<Option<Event>, Error> {
+        let mut event = Event::default();
+        let status = unsafe { amqp1_link_due(&mut self.place, session, &mut event) };
+        self.is_done(status).map(|is_one| is_one.then_some(event))
+    }
+
     /// Sends a flow of a link for this wish (sections 2.6.7 and 2.7.4). False where none is wanted: no end has the handle, it is not attached, it is a sender's
-    /// and the wish a receiver's, no credit is to be renewed, or nothing is to be answered. `NoMemory`, `Refused`: the link stands as before.
+    /// and the wish a receiver's, no credit is to be renewed, or nothing is to be answered. `HeldBack`: transfers of a sender wait for the peer's window.
+    /// `NoMemory`, `Refused`: the link stands as before.
     pub fn link_flow(&mut self, session: u32, link: u32, wish: Wish) -> Result<bool, Error> {
         let (wish, number) = wish.numbers();
         let status = unsafe { amqp1_link_flow(&mut self.place, session, link, wish, number) };
@@ -197,7 +218,8 @@ impl Engine {
     }
 
     /// Sends a Detach of a link (section 2.6.5), which ends it for good where `closed` (section 2.6.6), with PERF of an error or with none. False where no end
-    /// has the handle, or this side's was sent before. `BadArgument`: the bytes are no error. `NoMemory`, `Refused`: the link stands as before.
+    /// has the handle, or this side's was sent before. `BadArgument`: the bytes are no error. `HeldBack`: transfers of the link wait for the peer's window.
+    /// `NoMemory`, `Refused`: the link stands as before.
     pub fn link_detach(&mut self, session: u32, link: u32, closed: bool, error: Option<&[u8]>) -> Result<bool, Error> {
         if error.is_some_and(<[u8]>::is_empty) {
             return Err(Error::BadArgument);
@@ -223,6 +245,13 @@ impl Engine {
     /// back. False where the session has no links. `BadArgument`: no such outcome. `NoMemory`: ask again. `Refused`: it was.
     pub fn link_settle(&mut self, session: u32, role: Role, first: u32, last: u32, settled: bool, outcome: u8) -> Result<bool, Error> {
         let status = unsafe { amqp1_link_settle(&mut self.place, session, role as u32, first, last, settled as u32, outcome) };
+        self.is_done(status)
+    }
+
+    /// The same by PERF of a Disposition, of any state: rejected with an error, modified with its fields (part 3, sections 3.4.2 and 3.4.5). `BadArgument`: the
+    /// bytes are no Disposition.
+    pub fn link_dispose(&mut self, session: u32, disposition: &[u8]) -> Result<bool, Error> {
+        let status = unsafe { amqp1_link_dispose(&mut self.place, session, disposition.as_ptr(), disposition.len()) };
         self.is_done(status)
     }
 

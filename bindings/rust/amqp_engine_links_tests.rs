@@ -119,7 +119,7 @@ fn messages_go_by_credit_and_are_settled() {
     assert_eq!(pair.server.link_settled(SERVER, Role::Receiver, 0, 1), Ok(Some(given)));
     assert_eq!(pair.server.link_settled(SERVER, Role::Receiver, 0, 1), Ok(None));
     let came = pair.back();
-    let settled = EventKind::Settled { role: Role::Sender, first: 0, last: 1 };
+    let settled = EventKind::Settled { role: Role::Sender, first: 0, last: 1, by_peer: true };
     assert_eq!((kinds(&came), came[0].event.credit), (vec![EventKind::Flow { used: 0 }, settled], 2));
     assert_eq!((came[1].event.link, came[1].record.outcome), (NONE, 1));
     assert_eq!(pair.client.link_settled(CLIENT, Role::Sender, 0, 1), Ok(Some(Unsettled { given: 70, number: 0, link: own })));

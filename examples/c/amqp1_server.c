@@ -89,7 +89,7 @@ static void attach_link(struct peer *p, const amqp1_record *record, const uint8_
 {
     amqp1_event event;
     uint32_t link;
-    if (!told(p, "an attach", amqp1_link_attach(&p->engine, record->session, text, length, 50, 100, &link)) &&
+    if (!told(p, "an attach", amqp1_link_attach(&p->engine, record->session, text, length, text, 0, 50, 100, &link)) &&
         !told(p, "an attach's event", amqp1_link_wanted(&p->engine, record, link, &event)))
         told(p, "credit", amqp1_link_respond(&p->engine, &event, 0));
 }

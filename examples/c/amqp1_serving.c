@@ -15,7 +15,7 @@ uint32_t answer_link(const amqp1_record *record, const uint8_t *input, uint32_t 
     string_of(amqp1_bytes_field(of, AMQP1_TERMINUS_ADDRESS), address, sizeof address);
     must("a link", amqp1_link_on(&engine, record->session, record->input, role, AMQP1_FIRST, name, &link));
     must("an attach's text", amqp1_write_attach(text, sizeof text, &length, name, link, role, 2, AMQP1_FIRST, address, address, 0));
-    must("an attach", amqp1_link_attach(&engine, record->session, text, length, credit - credit / 2, credit, &link));
+    must("an attach", amqp1_link_attach(&engine, record->session, text, length, text, 0, credit - credit / 2, credit, &link));
     must("an attach's event", amqp1_link_wanted(&engine, record, link, &event));
     if (role == AMQP1_RECEIVER)
         must("credit", amqp1_link_respond(&engine, &event, 0));

@@ -51,7 +51,7 @@ void must(const char *what, int32_t status)
     size_t length = 0;
     if (status == AMQP1_REFUSED && amqp1_refusal(&engine, why, sizeof why, &length) != AMQP1_DONE)
         length = 0;
-    if (status != AMQP1_DONE)
+    if (status != AMQP1_DONE && status != AMQP1_OVER)
         fail_by(what, amqp1_status_name(status), why, length);
 }
 

@@ -17,7 +17,8 @@ extern amqp1 engine;
 /* What the program does with a record; the frame stands in the input. */
 void take_record(const amqp1_record *record, const uint8_t *input);
 
-/* Ends the program, and says why; the same where a call was not done, with the name of its refusal; and of a record that the program does not expect. */
+/* Ends the program, and says why; the same where a call was not done, with the name of its refusal; and of a record that the program does not expect. A call
+   that comes too late is passed over: the peer may close behind what is looked at, and run() tells that. */
 void fail(const char *what);
 void must(const char *what, int32_t status);
 void unexpected(const amqp1_record *record, const uint8_t *input);

@@ -561,7 +561,7 @@ AMQP1_FUNCTION const char *amqp1_status_name(int32_t status)
                                          "NO_ENGINE", "unknown",   "FULL",      "BAD_SIZE",     "SHORT",
                                          "AGAIN",     "WAITS",     "OVER",      "TOO_LARGE",    "NOTHING",
                                          "LOST",      "BROKEN",    "NOT_RELEASED", "NOT_FORGOTTEN", "NOT_DETACHED",
-                                         "UNSETTLED", "NOT_NEXT",  "NO_LINK",   "IN_USE" };
+                                         "UNSETTLED", "NOT_NEXT",  "NO_LINK",   "IN_USE",    "HELD_BACK" };
     return status >= 0 && (size_t)status < sizeof names / sizeof *names ? names[status] : "unknown";
 }
 

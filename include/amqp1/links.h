@@ -6,13 +6,12 @@
    pass what was granted; each unsettled delivery is given back once, with the number that was given with it. Of a link that is attached here the
    program asks for no flow, transfer, disposition or detach by the calls that know nothing of links.
 
-   Where the peer's session window is used up, the session holds transfers back (section 2.5.6). A Detach, the answer to a drain and a disposition do
-   not wait for these: they go out first. So a link is detached once all that was sent on it is settled; else its last transfers come under a handle
-   that is detached, and the peer ends the session.
+   Where the peer's session window is used up, the session holds transfers back (section 2.5.6). A Detach of a link, or its answer to a drain, does not
+   overtake these: it is answered AMQP1_HELD_BACK, and amqp1_link_due tells when it may be asked for again. A disposition does not wait: it is for
+   deliveries that the peer has.
 
-   Beside its link, the session keeps a record of each unsettled delivery, of some 120 bytes. What this side settles by amqp1_link_settle, and what the
-   peer settles, goes. Of a delivery that is aborted, settled by a later part or left on a link, or whose outcome the peer told unsettled, it stays until
-   amqp1_settle names the number, or the session ends.
+   Beside its link, the session keeps a record of each unsettled delivery, of some 120 bytes. What either side settles goes, and what amqp1_link_left
+   tells. Of a delivery that is aborted, or settled by a later part, it stays until amqp1_settle names the number, or the session ends.
 
        amqp1_event event;
        amqp1_sender(&engine, 0, "out", "queue", &link);                              -- in a session that has begun
@@ -42,7 +41,8 @@ enum amqp1_event_kind {
     AMQP1_EVENT_PASSED_OVER = 4, /* a transfer on a link that is not attached has come (section 2.6.6): it is passed over */
     AMQP1_EVENT_FAULT = 5,       /* the peer did what it may not do, an amqp1_fault in `detail`: this side ends the link for it */
     AMQP1_EVENT_SETTLED = 6,     /* the deliveries from `first` to `last` are settled: amqp1_link_settled gives each of them back */
-    AMQP1_EVENT_ENDED = 7        /* the peer's Detach has come: `detail` says what it was, an amqp1_link_end */
+    AMQP1_EVENT_ENDED = 7,       /* the peer's Detach has come: `detail` says what it was, an amqp1_link_end */
+    AMQP1_EVENT_DUE = 8          /* a call of the link was answered AMQP1_HELD_BACK, and may be made again: amqp1_link_due tells it */
 };
 
 /* What an event says besides, in amqp1_event.flags. */
@@ -53,7 +53,8 @@ enum amqp1_event_flag {
     AMQP1_EVENT_PRESETTLED = 8, /* the delivery is settled so far: where a part of it says so, or it is aborted */
     AMQP1_EVENT_GIVEN = 16,    /* `given` is what was given with the delivery, which this part settles or aborts */
     AMQP1_EVENT_FOR_GOOD = 32, /* a Detach closes the link for good (section 2.6.6) */
-    AMQP1_EVENT_RECEIVED = 64  /* the deliveries that are settled have come; else this side sent them */
+    AMQP1_EVENT_RECEIVED = 64, /* the deliveries that are settled have come; else this side sent them */
+    AMQP1_EVENT_BY_PEER = 128  /* the peer has settled them; else this side has, in answer to a terminal outcome */
 };
 
 /* Where a link stands. */
@@ -136,13 +137,15 @@ enum amqp1_link_why {
 /* ---- the exports of links. Where nothing lies in the place the answer is AMQP1_NO_ENGINE, and nothing is written. */
 
 /* Attaches a link: an Attach is to be sent, and the link has its end from then on. `attach` is PERF of it: its role says which end that is; its handle
-   is of no matter, since it gets the one that amqp1_link, or amqp1_link_on, has allotted to its name. A sender's initial-delivery-count is 0 where it
-   says none. A receiver renews its credit up to `high`, where fewer than `low` are left; with a `low` or a `high` of 0 never by itself. Its
+   is of no matter, since it gets the one that amqp1_link, or amqp1_link_on, has allotted to `name`, or, where `name_length` is 0, to the Attach's own
+   name. A server needs another one whose clients give one name to a sender and a receiver: it marks the names. A sender's initial-delivery-count is 0
+   where it says none. A receiver renews its credit up to `high`, where fewer than `low` are left; with a `low` or a `high` of 0 never by itself. Its
    max-message-size is held against what comes. The handle goes to `link`. (Section 2.6.3.)
 
-   DONE. BAD_ARGUMENT: the bytes are no Attach. NO_LINK: no handle is allotted to the name. IN_USE: its handle has an end: amqp1_link_remove takes it
-   away. NO_MEMORY: nothing changed, ask again. REFUSED: the Attach was, by a name that amqp1_refusal tells. */
-int32_t amqp1_link_attach(amqp1 *place, uint32_t session, const uint8_t *attach, size_t attach_length, uint32_t low, uint32_t high, uint32_t *link);
+   DONE. BAD_ARGUMENT: the bytes are no Attach, or the name is no UTF-8. NO_LINK: no handle is allotted to the name. IN_USE: its handle has an end:
+   amqp1_link_remove takes it away. NO_MEMORY: nothing changed, ask again. REFUSED: the Attach was, by a name that amqp1_refusal tells. */
+int32_t amqp1_link_attach(amqp1 *place, uint32_t session, const uint8_t *attach, size_t attach_length, const uint8_t *name, size_t name_length,
+                          uint32_t low, uint32_t high, uint32_t *link);
 
 /* Tells the peer's Attach that came first, as the record of AMQP1_KIND_ATTACH_WANTED, to the link that answers it, which amqp1_link_attach has attached
    under this handle. DONE, and `event` says what it is to the link, AMQP1_EVENT_NOTHING where no end has the handle. NO_MEMORY: tell it again. */
@@ -153,19 +156,26 @@ int32_t amqp1_link_wanted(amqp1 *place, const amqp1_record *record, uint32_t lin
    number does not lie after each one that is unsettled, by less than 2^31 (section 2.8.10): nothing changed. */
 int32_t amqp1_link_event(amqp1 *place, const amqp1_record *record, uint64_t given, amqp1_event *event);
 
+/* Tells a link of the session of which a call was answered HELD_BACK, once all that had been sent in the session by then has gone out: `event` is of
+   AMQP1_EVENT_DUE. Called after each record until it answers NOTHING, it tells each such link once, in the order of the calls. DONE. */
+int32_t amqp1_link_due(amqp1 *place, uint32_t session, amqp1_event *event);
+
 /* Sends what a link owes for an event, if it owes anything: a flow, where credit is to be renewed or the peer asked for one; a Detach, in answer to the
-   peer's, or for a fault. `available` is how many messages are ready to be sent on the link. DONE; NOTHING where it owes nothing; NO_MEMORY: ask again;
-   REFUSED: by a name that amqp1_refusal tells. */
+   peer's, or for a fault. `available` is how many messages are ready to be sent on the link. Of deliveries that are settled, but not by the peer, the
+   session lets its records go. DONE; NOTHING where it owes nothing; HELD_BACK: it is owed still, and AMQP1_EVENT_DUE asks for it again; NO_MEMORY: ask
+   again; REFUSED: by a name that amqp1_refusal tells. */
 int32_t amqp1_link_respond(amqp1 *place, const amqp1_event *event, uint32_t available);
 
 /* Sends a flow of a link (sections 2.6.7 and 2.7.4) for this wish, an amqp1_wish: GRANT of `number` credit, DRAIN, RENEW, or ANSWER with `number` messages
    ready. DONE; NOTHING where none is wanted: no end has the handle, it is not attached, it is a sender's and the wish a receiver's, no credit is to be
-   renewed, or nothing to be answered. BAD_ARGUMENT: no such wish. NO_MEMORY, REFUSED: the link stands as before. */
+   renewed, or nothing to be answered. BAD_ARGUMENT: no such wish. HELD_BACK, of a sender: transfers of the link wait for the peer's window, which it
+   would count as used up. NO_MEMORY, REFUSED. The link stands as before then. */
 int32_t amqp1_link_flow(amqp1 *place, uint32_t session, uint32_t link, uint32_t wish, uint32_t number);
 
 /* Sends a Detach of a link (section 2.6.5), which ends it for good where `closed` is not 0 (section 2.6.6), with an error (amqp1_write_error), or with none
    where `error_length` is 0. DONE; NOTHING where no end has the handle, or this side's was sent before. BAD_ARGUMENT: the bytes are no error.
-   NO_MEMORY, REFUSED: the link stands as before. */
+   HELD_BACK: transfers of the link wait for the peer's window, and would come on a link that is detached. NO_MEMORY, REFUSED. The link stands as before
+   then. */
 int32_t amqp1_link_detach(amqp1 *place, uint32_t session, uint32_t link, uint32_t closed, const uint8_t *error, size_t error_length);
 
 /* Sends a transfer on the link of `head` (sections 2.6.7 and 2.6.14): it begins a delivery where none is under way on the link, and takes one of its credit,
@@ -181,12 +191,16 @@ int32_t amqp1_link_send(amqp1 *place, const amqp1_head *head, const uint8_t *byt
    REFUSED. */
 int32_t amqp1_link_settle(amqp1 *place, uint32_t session, uint32_t role, uint32_t first, uint32_t last, uint32_t settled, uint8_t outcome);
 
+/* The same by PERF of a Disposition, of any state: rejected with an error, modified with its fields (part 3, sections 3.4.2 and 3.4.5). DONE; NOTHING where
+   the session has no links; BAD_ARGUMENT: the bytes are no Disposition; NO_MEMORY: ask again; REFUSED. */
+int32_t amqp1_link_dispose(amqp1 *place, uint32_t session, const uint8_t *disposition, size_t disposition_length);
+
 /* Takes out the oldest unsettled delivery of a range, which is settled; called until it answers NOTHING it gives each one back once, in the order of their
    numbers. DONE, and `delivery` is it. BAD_ARGUMENT: no such role. */
 int32_t amqp1_link_settled(amqp1 *place, uint32_t session, uint32_t role, uint32_t first, uint32_t last, amqp1_unsettled *delivery);
 
 /* Takes out the oldest delivery that is left unsettled on a link, once the peer has detached it; called until it answers NOTHING it tells each one once, so
-   that a program can send it again (section 2.6.13). DONE, and `delivery` is it. */
+   that a program can send it again (section 2.6.13). The session lets its record go. DONE, and `delivery` is it. NO_MEMORY: nothing changed, ask again. */
 int32_t amqp1_link_left(amqp1 *place, uint32_t session, uint32_t link, amqp1_unsettled *delivery);
 
 /* The same of all links of a session that is over: of the deliveries that this side sent, or, as AMQP1_RECEIVER, of those that have come. */
@@ -205,9 +219,32 @@ int32_t amqp1_link_credit(amqp1 *place, uint32_t session, uint32_t link, uint32_
 
 /* ---- made of these */
 
-/* A record is told to the links of its session, and what they owe for it is sent. DONE, or the first answer that is another one but NOTHING. Where
-   that is no DONE and the event is AMQP1_EVENT_NOTHING, the record was not told: it may be told again. Else it was told, and what is owed for it may
-   be asked for again by amqp1_link_respond. */
+/* Whether nothing has to be asked for again at once after this answer: where the connection is over, nothing is owed any more. For use within this
+   header. */
+AMQP1_FUNCTION int amqp1_link_went(int32_t status)
+{
+    return status == AMQP1_DONE || status == AMQP1_NOTHING || status == AMQP1_HELD_BACK || status == AMQP1_OVER;
+}
+
+/* What links of the session owe that is due is sent: see amqp1_link_due. DONE, or the first answer that is another one but NOTHING, HELD_BACK and OVER:
+   `event` is that of the link then, and what it owes may be asked for again by amqp1_link_respond. */
+AMQP1_FUNCTION int32_t amqp1_link_pay(amqp1 *place, uint32_t session, amqp1_event *event)
+{
+    amqp1_event due;
+    while (amqp1_link_due(place, session, &due) == AMQP1_DONE) {
+        int32_t status = amqp1_link_respond(place, &due, 0);
+        if (!amqp1_link_went(status)) {
+            *event = due;
+            return status;
+        }
+    }
+    return AMQP1_DONE;
+}
+
+/* A record is told to the links of its session, and what they owe for it, and what is due, is sent. DONE, also where the peer has closed the connection
+   behind the record, since nothing is owed then; or the first answer that is another one but NOTHING, HELD_BACK and OVER. Where that is no DONE and the
+   event is AMQP1_EVENT_NOTHING, the record was not told: it may be told again. Else it was told, and what is owed for the event may be asked for again by
+   amqp1_link_respond. */
 AMQP1_FUNCTION int32_t amqp1_link_follow(amqp1 *place, const amqp1_record *record, amqp1_event *event)
 {
     int32_t status;
@@ -215,7 +252,7 @@ AMQP1_FUNCTION int32_t amqp1_link_follow(amqp1 *place, const amqp1_record *recor
     status = amqp1_link_event(place, record, 0, event);
     if (status == AMQP1_DONE)
         status = amqp1_link_respond(place, event, 0);
-    return status == AMQP1_NOTHING ? AMQP1_DONE : status;
+    return amqp1_link_went(status) ? amqp1_link_pay(place, record->session, event) : status;
 }
 
 /* The next delivery of those that an event of AMQP1_EVENT_SETTLED tells: see amqp1_link_settled. */
@@ -235,11 +272,11 @@ AMQP1_FUNCTION int32_t amqp1_link_to(amqp1 *place, uint32_t session, const char 
     size_t length;
     int32_t status = amqp1_write_attach(attach, sizeof attach, &length, name, 0, role, snd_settle_mode, rcv_settle_mode, source, target, 0);
     if (status == AMQP1_DONE)
-        status = amqp1_link_attach(place, session, attach, length, low, high, link);
+        status = amqp1_link_attach(place, session, attach, length, attach, 0, low, high, link);
     if (status != AMQP1_NO_LINK)
         return status;
     status = amqp1_link(place, session, role, rcv_settle_mode, name, link);
-    return status == AMQP1_DONE ? amqp1_link_attach(place, session, attach, length, low, high, link) : status;
+    return status == AMQP1_DONE ? amqp1_link_attach(place, session, attach, length, attach, 0, low, high, link) : status;
 }
 
 /* A sender to an address in a session that has begun: its deliveries are settled one by one, as each says (snd-settle-mode mixed, section 2.8.2). The

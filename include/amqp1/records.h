@@ -44,7 +44,8 @@ enum amqp1_status {
     AMQP1_UNSETTLED = 20,     /* of amqp1_link_remove: deliveries of the link are unsettled */
     AMQP1_NOT_NEXT = 21,      /* of amqp1_link_event: a delivery's number does not lie after each one that is unsettled, by less than 2^31 */
     AMQP1_NO_LINK = 22,       /* of amqp1_link_attach: no handle is allotted to the name; of amqp1_link_remove: no end has the handle */
-    AMQP1_IN_USE = 23         /* of amqp1_link_attach: the handle has an end already */
+    AMQP1_IN_USE = 23,        /* of amqp1_link_attach: the handle has an end already */
+    AMQP1_HELD_BACK = 24      /* of a flow or a Detach of a link: transfers of it wait for the peer's window; amqp1_link_due tells when to ask again */
 };
 
 /* What a frame was. A record of a kind that is not named here is of a later version: pass over it. */
@@ -136,7 +137,7 @@ enum amqp1_outcome {
     AMQP1_RELEASED = 3,
     AMQP1_MODIFIED = 4,
     AMQP1_RECEIVED = 5,
-    AMQP1_OTHER_STATE = 6 /* any other one, or one that is described by a name */
+    AMQP1_OTHER_STATE = 6 /* any other one */
 };
 
 /* Why a frame or a transfer was refused, in amqp1_record.refusal, amqp1_sent.refusal and amqp1_parts.refusal; 0 where it was not.

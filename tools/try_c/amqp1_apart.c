@@ -30,7 +30,7 @@ static void try_two_sessions(void)
     passes(&client, &server);
     CHECK(answers_link(&server, "out", AMQP1_RECEIVER, 2, 3, 0) == 0 && passes(&server, &client) == 2 && credit_of(&client, 0) == 3);
     CHECK(sends_one(&client, 0, 0, 0) && passes(&client, &server) == 1 && is_part(&server, 0, 0, 0, 3, 2, WHOLE));
-    CHECK(amqp1_link_accept(&server.engine, server.events) == AMQP1_DONE && passes(&server, &client) == 1 && is_settled(&client, 0, 0, 0, 0));
+    CHECK(amqp1_link_accept(&server.engine, server.events) == AMQP1_DONE && passes(&server, &client) == 1 && is_settled(&client, 0, 0, 0, AMQP1_EVENT_BY_PEER));
     CHECK(amqp1_link_settled_of(&client.engine, client.events, &delivery) == AMQP1_DONE && is_unsettled(&delivery, 0, 0, given_with(70)));
     CHECK(amqp1_link_forget(&client.engine, client.session) == AMQP1_DONE && credit_of(&client, 0) == 0);
     client.session = CLIENTS;
@@ -60,7 +60,7 @@ static void try_many_links(void)
         EACH(is_part(&server, at, at, at, 3, at, WHOLE));
     CHECK(amqp1_link_settle(&server.engine, SERVERS, AMQP1_RECEIVER, 0, LINKS - 1, 1, AMQP1_ACCEPTED) == AMQP1_DONE);
     passes(&server, &client);
-    CHECK(is_settled(&client, client.count - 1, 0, LINKS - 1, 0));
+    CHECK(is_settled(&client, client.count - 1, 0, LINKS - 1, AMQP1_EVENT_BY_PEER));
     for (at = 0; at < LINKS; at++) {
         EACH(amqp1_link_settled_of(&client.engine, client.events + client.count - 1, &delivery) == AMQP1_DONE);
         EACH(is_unsettled(&delivery, at, at, given_with(70 + at)));
@@ -81,7 +81,7 @@ static void try_wrapping_count(void)
     meet();
     CHECK(amqp1_link(&client.engine, CLIENTS, AMQP1_SENDER, AMQP1_FIRST, "out", &link) == AMQP1_DONE);
     CHECK(amqp1_write_attach(text, sizeof text, &length, "out", 77, AMQP1_SENDER, 2, AMQP1_FIRST, "q", "q", 0xfffffffe) == AMQP1_DONE);
-    CHECK(amqp1_link_attach(&client.engine, CLIENTS, text, length, 0, 0, &link) == AMQP1_DONE && link == 0);
+    CHECK(amqp1_link_attach(&client.engine, CLIENTS, text, length, text, 0, 0, 0, &link) == AMQP1_DONE && link == 0);
     passes(&client, &server);
     CHECK(server.wanted.count == 0xfffffffe && answers_link(&server, "out", AMQP1_RECEIVER, 3, 4, 0) == 0);
     for (at = 0; at < 10; at++) {

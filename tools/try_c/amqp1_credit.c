@@ -50,14 +50,14 @@ static void try_settled(void)
     CHECK(amqp1_link_settled(&server.engine, SERVERS, AMQP1_RECEIVER, 0, 2, &delivery) == AMQP1_DONE && is_unsettled(&delivery, 0, 0, given_with(0)));
     CHECK(amqp1_link_settled(&server.engine, SERVERS, AMQP1_RECEIVER, 0, 2, &delivery) == AMQP1_DONE && is_unsettled(&delivery, 2, 0, given_with(2)));
     CHECK(amqp1_link_settled(&server.engine, SERVERS, AMQP1_RECEIVER, 0, 2, &delivery) == AMQP1_NOTHING && is_unsettled(&delivery, 2, 0, given_with(2)));
-    CHECK(passes(&server, &client) == 1 && is_settled(&client, 0, 0, 2, 0));
+    CHECK(passes(&server, &client) == 1 && is_settled(&client, 0, 0, 2, AMQP1_EVENT_BY_PEER));
     CHECK(amqp1_link_settled_of(&client.engine, client.events, &delivery) == AMQP1_DONE && is_unsettled(&delivery, 0, 0, given_with(70)));
     CHECK(amqp1_link_settled_of(&client.engine, client.events, &delivery) == AMQP1_DONE && is_unsettled(&delivery, 2, 0, given_with(72)));
     CHECK(amqp1_link_settled_of(&client.engine, client.events, &delivery) == AMQP1_NOTHING && is_unsettled(&delivery, 2, 0, given_with(72)));
     /* the sender settles the last one, and the receiver is told */
     CHECK(amqp1_link_settle(&client.engine, CLIENTS, AMQP1_SENDER, 3, 3, 1, AMQP1_NO_STATE) == AMQP1_DONE);
     CHECK(amqp1_link_settled(&client.engine, CLIENTS, AMQP1_SENDER, 3, 3, &delivery) == AMQP1_DONE && is_unsettled(&delivery, 3, 0, given_with(73)));
-    CHECK(passes(&client, &server) == 1 && is_settled(&server, 0, 3, 3, AMQP1_EVENT_RECEIVED));
+    CHECK(passes(&client, &server) == 1 && is_settled(&server, 0, 3, 3, AMQP1_EVENT_RECEIVED | AMQP1_EVENT_BY_PEER));
     CHECK(amqp1_link_settled_of(&server.engine, server.events, &delivery) == AMQP1_DONE && is_unsettled(&delivery, 3, 0, given_with(3)));
     CHECK(amqp1_link_settled_of(&server.engine, server.events, &delivery) == AMQP1_NOTHING);
     part();
@@ -71,12 +71,12 @@ static void try_accepted(void)
     CHECK(amqp1_link_settle(&server.engine, SERVERS, AMQP1_RECEIVER, 0, 0, 0, AMQP1_ACCEPTED) == AMQP1_DONE);
     CHECK(passes(&server, &client) == 1 && is_settled(&client, 0, 0, 0, 0));
     CHECK(amqp1_link_settled_of(&client.engine, client.events, &delivery) == AMQP1_DONE && is_unsettled(&delivery, 0, 0, given_with(70)));
-    CHECK(passes(&client, &server) == 1 && is_settled(&server, 0, 0, 0, AMQP1_EVENT_RECEIVED));
+    CHECK(passes(&client, &server) == 1 && is_settled(&server, 0, 0, 0, AMQP1_EVENT_RECEIVED | AMQP1_EVENT_BY_PEER));
     CHECK(amqp1_link_settled_of(&server.engine, server.events, &delivery) == AMQP1_DONE && is_unsettled(&delivery, 0, 0, given_with(0)));
     CHECK(sends_one(&client, 0, 0, 2) && passes(&client, &server) == 1 && is_part(&server, 0, 0, 2, 3, 7, WHOLE));
     CHECK(amqp1_link_accept(&server.engine, server.events) == AMQP1_DONE);
     CHECK(amqp1_link_settled(&server.engine, SERVERS, AMQP1_RECEIVER, 2, 2, &delivery) == AMQP1_NOTHING);
-    CHECK(passes(&server, &client) == 1 && is_settled(&client, 0, 2, 2, 0));
+    CHECK(passes(&server, &client) == 1 && is_settled(&client, 0, 2, 2, AMQP1_EVENT_BY_PEER));
     CHECK(amqp1_link_settled_of(&client.engine, client.events, &delivery) == AMQP1_DONE && is_unsettled(&delivery, 2, 0, given_with(72)));
     /* a disposition that says no outcome, and does not settle, is nothing */
     CHECK(amqp1_link_settle(&server.engine, SERVERS, AMQP1_RECEIVER, 1, 1, 0, AMQP1_NO_STATE) == AMQP1_DONE && passes(&server, &client) == 0);

@@ -163,22 +163,22 @@ static void try_refused_attaches(void)
     address[sizeof address - 1] = 0;
     meet();
     length = attach_text(text, sizeof text, "out", AMQP1_SENDER, "q", "q", 0);
-    CHECK(amqp1_link_attach(&client.engine, CLIENTS, text, length, 0, 0, &link) == AMQP1_NO_LINK && link == 99);
-    CHECK(amqp1_link_attach(&client.engine, 99, text, length, 0, 0, &link) == AMQP1_NO_LINK && link == 99);
-    CHECK(amqp1_link_attach(&client.engine, CLIENTS, text, length - 1, 0, 0, &link) == AMQP1_BAD_ARGUMENT && link == 99);
-    CHECK(amqp1_link_attach(&client.engine, CLIENTS, text, 0, 0, 0, &link) == AMQP1_BAD_ARGUMENT && link == 99);
+    CHECK(amqp1_link_attach(&client.engine, CLIENTS, text, length, text, 0, 0, 0, &link) == AMQP1_NO_LINK && link == 99);
+    CHECK(amqp1_link_attach(&client.engine, 99, text, length, text, 0, 0, 0, &link) == AMQP1_NO_LINK && link == 99);
+    CHECK(amqp1_link_attach(&client.engine, CLIENTS, text, length - 1, text, 0, 0, 0, &link) == AMQP1_BAD_ARGUMENT && link == 99);
+    CHECK(amqp1_link_attach(&client.engine, CLIENTS, text, 0, text, 0, 0, 0, &link) == AMQP1_BAD_ARGUMENT && link == 99);
     CHECK(amqp1_sender(&client.engine, 99, "out", "q", &link) == AMQP1_REFUSED && refused_as(&client.engine, "NoSession", ""));
     CHECK(amqp1_sender(&client.engine, CLIENTS, "out", address, &link) == AMQP1_TOO_SMALL);
     CHECK(amqp1_link(&client.engine, CLIENTS, AMQP1_SENDER, AMQP1_FIRST, "out", &link) == AMQP1_DONE && link == 0);
     link = 99;
-    CHECK(amqp1_link_attach(&client.engine, CLIENTS, text, length, 0, 0, &link) == AMQP1_DONE && link == 0);
+    CHECK(amqp1_link_attach(&client.engine, CLIENTS, text, length, text, 0, 0, 0, &link) == AMQP1_DONE && link == 0);
     link = 99;
-    CHECK(amqp1_link_attach(&client.engine, CLIENTS, text, length, 0, 0, &link) == AMQP1_IN_USE && link == 99);
+    CHECK(amqp1_link_attach(&client.engine, CLIENTS, text, length, text, 0, 0, 0, &link) == AMQP1_IN_USE && link == 99);
     /* one that is longer than the peer's frames */
     CHECK(amqp1_link(&client.engine, CLIENTS, AMQP1_RECEIVER, AMQP1_FIRST, "long", &link) == AMQP1_DONE && link == 1);
     length = attach_text(text, sizeof text, "long", AMQP1_RECEIVER, address, "q", 0);
     link = 99;
-    CHECK(amqp1_link_attach(&client.engine, CLIENTS, text, length, 0, 0, &link) == AMQP1_REFUSED && link == 99);
+    CHECK(amqp1_link_attach(&client.engine, CLIENTS, text, length, text, 0, 0, 0, &link) == AMQP1_REFUSED && link == 99);
     CHECK(refused_as(&client.engine, "TooLarge", ""));
     part();
 }

@@ -36,7 +36,7 @@ static void tell(face *to, const amqp1_record *record)
     if (to->count < EVENTS)
         to->events[to->count++] = event;
     status = to->is_silent || to->follows ? AMQP1_NOTHING : amqp1_link_respond(&to->engine, &event, 0);
-    EACH(status == AMQP1_DONE || status == AMQP1_NOTHING);
+    EACH(amqp1_link_went(status));
 }
 
 static void hear(face *to, const amqp1_record *record, const uint8_t *input, size_t length)
@@ -95,12 +95,17 @@ static void start(face *it, const char *name, uint32_t session)
 
 void meet(void)
 {
+    meet_with(5000);
+}
+
+void meet_with(uint32_t window)
+{
     uint8_t begin[64];
     size_t length;
     start(&client, "client", CLIENTS);
     start(&server, "server", SERVERS);
     exchanges();
-    EACH(amqp1_write_begin(begin, sizeof begin, &length, 0, 5000, 5000, 255) == AMQP1_DONE);
+    EACH(amqp1_write_begin(begin, sizeof begin, &length, 0, window, 5000, 255) == AMQP1_DONE);
     EACH(amqp1_begin(&client.engine, CLIENTS, begin, length) == AMQP1_DONE);
     exchanges();
     CHECK(session_state_of(&client.engine, CLIENTS) == AMQP1_SESSION_MAPPED && session_state_of(&server.engine, SERVERS) == AMQP1_SESSION_MAPPED);
@@ -150,7 +155,7 @@ uint32_t answers_link(face *it, const char *name, enum amqp1_role role, uint32_t
     int32_t status;
     CHECK(it->wanted.kind == AMQP1_KIND_ATTACH_WANTED);
     CHECK(amqp1_link_on(&it->engine, it->session, it->wanted.input, role, AMQP1_FIRST, name, &link) == AMQP1_DONE);
-    CHECK(amqp1_link_attach(&it->engine, it->session, attach, length, low, high, &same) == AMQP1_DONE && same == link);
+    CHECK(amqp1_link_attach(&it->engine, it->session, attach, length, attach, 0, low, high, &same) == AMQP1_DONE && same == link);
     CHECK(amqp1_link_wanted(&it->engine, &it->wanted, link, &it->events[0]) == AMQP1_DONE);
     status = amqp1_link_respond(&it->engine, &it->events[0], 0);
     CHECK(status == (role == AMQP1_RECEIVER && high ? AMQP1_DONE : AMQP1_NOTHING));

@@ -22,6 +22,10 @@ typedef struct face {
 /* A client and a server whose session has begun: CLIENTS of the client's, and SERVERS of the server's. Frames have up to 1,024 bytes. */
 extern face client, server;
 void meet(void);
+
+/* The same where the client's session takes so many transfers at a time. */
+void meet_with(uint32_t window);
+
 void part(void);
 
 /* What one side has to send comes to the other, which tells each record to its links: how many events those are. */

@@ -14,7 +14,7 @@ static amqp1 receiving(uint32_t credit)
     uint32_t link = 99;
     size_t length = attach_text(text, sizeof text, "in", AMQP1_RECEIVER, "q", "q", 4);
     CHECK(amqp1_link(&engine, 7, AMQP1_RECEIVER, AMQP1_FIRST, "in", &link) == AMQP1_DONE && link == 0);
-    CHECK(amqp1_link_attach(&engine, 7, text, length, 0, 0, &link) == AMQP1_DONE && link == 0);
+    CHECK(amqp1_link_attach(&engine, 7, text, length, text, 0, 0, 0, &link) == AMQP1_DONE && link == 0);
     CHECK(amqp1_grant(&engine, 7, 0, 9) == AMQP1_NOTHING);
     CHECK(hears_one(&engine, "[02000003 005312 c0(0a a1(696e) 5206 42 40 40 00532845 00532945 40 40 5209)]", AMQP1_KIND_ATTACHED));
     CHECK(amqp1_link_event(&engine, heard, 0, &event) == AMQP1_DONE && event.kind == AMQP1_EVENT_ATTACHED && event.detail == AMQP1_LIFE_ATTACHED);

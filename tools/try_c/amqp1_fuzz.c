@@ -27,11 +27,17 @@ static void tell(amqp1 *engine, const amqp1_record *it, uint64_t given)
     MUST(status == AMQP1_DONE || status == AMQP1_NOT_NEXT);
     if (status != AMQP1_DONE)
         return;
-    MUST(event.kind <= AMQP1_EVENT_ENDED && event.session == it->session && event.flags < 128);
+    MUST(event.kind <= AMQP1_EVENT_ENDED && event.session == it->session && event.flags < 256);
     MUST((event.kind == AMQP1_EVENT_NOTHING || event.kind == AMQP1_EVENT_SETTLED) == (event.link == AMQP1_NONE));
     status = amqp1_link_respond(engine, &event, (uint32_t)given);
-    MUST(status == AMQP1_DONE || status == AMQP1_NOTHING || status == AMQP1_REFUSED);
-    MUST(status == AMQP1_REFUSED || amqp1_link_respond(engine, &event, (uint32_t)given) == AMQP1_NOTHING);
+    MUST(amqp1_link_went(status) || status == AMQP1_REFUSED);
+    if (event.kind != AMQP1_EVENT_SETTLED && status != AMQP1_REFUSED)
+        MUST(amqp1_link_respond(engine, &event, (uint32_t)given) == (status == AMQP1_HELD_BACK ? AMQP1_HELD_BACK : AMQP1_NOTHING));
+    while (amqp1_link_due(engine, it->session, &event) == AMQP1_DONE) {
+        MUST(event.kind == AMQP1_EVENT_DUE && event.session == it->session && event.link != AMQP1_NONE);
+        status = amqp1_link_respond(engine, &event, (uint32_t)given);
+        MUST(amqp1_link_went(status) || status == AMQP1_REFUSED);
+    }
 }
 
 /* An engine as far as this: 0 made, 1 its Open sent, 2 open, 3 with the session 7, 4 with a link on which it sends (0, the peer's 5) and 5 also
@@ -85,7 +91,7 @@ static void make(amqp1 *engine, unsigned far, unsigned idles, unsigned credited)
         MUST(amqp1_link(engine, 7, role, at ? AMQP1_SECOND : AMQP1_FIRST, names[at], &handle) == AMQP1_DONE && handle == at);
         MUST(amqp1_write_attach(text, sizeof text, &written, names[at], at, role, 2, AMQP1_FIRST, "q", "q", 0) ==
              AMQP1_DONE);
-        MUST((credited ? amqp1_link_attach(engine, 7, text, written, 3, 5, &handle) : amqp1_attach(engine, 7, text, written)) == AMQP1_DONE);
+        MUST((credited ? amqp1_link_attach(engine, 7, text, written, text, 0, 3, 5, &handle) : amqp1_attach(engine, 7, text, written)) == AMQP1_DONE);
         MUST(amqp1_take(engine, 0, attach, length, records, 4, &took) == AMQP1_DONE && took.taken == length && records[0].kind == AMQP1_KIND_ATTACHED);
         tell(engine, records, 0);
     }
@@ -239,7 +245,7 @@ static void link_call(amqp1 *engine, unsigned which, const uint8_t *bytes, size_
     memcpy(&record, bytes, length < sizeof record ? length : sizeof record);
     memcpy(&event, bytes, length < sizeof event ? length : sizeof event);
     switch (which) {
-    case 0: status = amqp1_link_attach(engine, n[0], bytes, length, n[1], n[2], &link); break;
+    case 0: status = amqp1_link_attach(engine, n[0], bytes, length, bytes, n[3] % 2 ? length % 4 : 0, n[1], n[2], &link); break;
     case 1: status = amqp1_link_wanted(engine, &record, n[1], &event); break;
     case 2: tell(engine, &record, n[1]); break;
     case 3: status = amqp1_link_respond(engine, &event, n[1]); break;
@@ -252,10 +258,12 @@ static void link_call(amqp1 *engine, unsigned which, const uint8_t *bytes, size_
     case 10: unsettled(engine, which, n); break;
     case 11: status = amqp1_link_remove(engine, n[0], n[1]); break;
     case 12: status = amqp1_link_forget(engine, n[0]); break;
+    case 13: status = amqp1_link_due(engine, n[0], &event); break;
+    case 14: status = amqp1_link_dispose(engine, n[0], bytes, length); break;
     default: status = amqp1_link_credit(engine, n[0], n[1], &link); break;
     }
     MUST(status == AMQP1_DONE || status == AMQP1_REFUSED || status == AMQP1_BAD_ARGUMENT || status == AMQP1_NOTHING ||
-         (status >= AMQP1_NOT_DETACHED && status <= AMQP1_IN_USE));
+         (status >= AMQP1_NOT_DETACHED && status <= AMQP1_HELD_BACK));
 }
 
 /* A request, whose output has just this room. From 128 on the first byte names a call of links. */
@@ -266,7 +274,7 @@ static void call(amqp1 *engine, const uint8_t *input, size_t length, size_t room
     int32_t status;
     MUST(output);
     if (length && input[0] >= 128)
-        link_call(engine, (input[0] - 128u) % 14, input + 1, length - 1);
+        link_call(engine, (input[0] - 128u) % 16, input + 1, length - 1);
     else if (length) {
         status = amqp1_call(engine, input[0] % 38, input + 1, length - 1, output, room, &written);
         MUST((status >= AMQP1_DONE && status <= AMQP1_BAD_ARGUMENT) || status == AMQP1_NOT_RELEASED || status == AMQP1_NOT_FORGOTTEN);

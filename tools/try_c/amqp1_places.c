@@ -71,7 +71,7 @@ void try_records(void)
     STANDS(amqp1_unsettled, number, 8, 4);
     STANDS(amqp1_unsettled, link, 12, 4);
     CHECK(amqp1_version() >> 16 == AMQP1_VERSION_MAJOR && amqp1_version() == AMQP1_VERSION_NUMBER);
-    CHECK(!strcmp(amqp1_status_name(AMQP1_SHORT), "SHORT") && !strcmp(amqp1_status_name(-1), "unknown") && !strcmp(amqp1_status_name(13), "TOO_LARGE") && !strcmp(amqp1_status_name(18), "NOT_FORGOTTEN") && !strcmp(amqp1_status_name(19), "NOT_DETACHED") && !strcmp(amqp1_status_name(23), "IN_USE") && !strcmp(amqp1_status_name(24), "unknown"));
+    CHECK(!strcmp(amqp1_status_name(AMQP1_SHORT), "SHORT") && !strcmp(amqp1_status_name(-1), "unknown") && !strcmp(amqp1_status_name(13), "TOO_LARGE") && !strcmp(amqp1_status_name(18), "NOT_FORGOTTEN") && !strcmp(amqp1_status_name(19), "NOT_DETACHED") && !strcmp(amqp1_status_name(23), "IN_USE") && !strcmp(amqp1_status_name(24), "HELD_BACK") && !strcmp(amqp1_status_name(25), "unknown"));
     CHECK(!strcmp(amqp1_kind_name(AMQP1_KIND_REFUSED), "Refused") && !strcmp(amqp1_kind_name(AMQP1_KIND_NOT_OPENED), "NotOpened") && !strcmp(amqp1_kind_name(21), "unknown"));
 }
 
@@ -88,10 +88,11 @@ static void try_empty_links(amqp1 *place)
     memset(&record, 7, sizeof record);
     memset(&event, 7, sizeof event);
     old = event;
-    CHECK(amqp1_link_attach(place, 7, in, sizeof in, 1, 2, &number) == AMQP1_NO_ENGINE && number == 7);
+    CHECK(amqp1_link_attach(place, 7, in, sizeof in, in, 0, 1, 2, &number) == AMQP1_NO_ENGINE && number == 7);
     CHECK(amqp1_link_wanted(place, &record, 0, &event) == AMQP1_NO_ENGINE && !memcmp(&event, &old, sizeof event));
     CHECK(amqp1_link_event(place, &record, 9, &event) == AMQP1_NO_ENGINE && !memcmp(&event, &old, sizeof event));
-    CHECK(amqp1_link_respond(place, &event, 9) == AMQP1_NO_ENGINE);
+    CHECK(amqp1_link_due(place, 7, &event) == AMQP1_NO_ENGINE && !memcmp(&event, &old, sizeof event));
+    CHECK(amqp1_link_respond(place, &event, 9) == AMQP1_NO_ENGINE && amqp1_link_dispose(place, 7, in, sizeof in) == AMQP1_NO_ENGINE);
     CHECK(amqp1_link_flow(place, 7, 0, AMQP1_WISH_GRANT, 9) == AMQP1_NO_ENGINE && amqp1_link_flow(place, 7, 0, 99, 9) == AMQP1_NO_ENGINE);
     CHECK(amqp1_link_detach(place, 7, 0, 1, in, sizeof in) == AMQP1_NO_ENGINE);
     CHECK(amqp1_link_send(place, &head, in, sizeof in, 9, &told) == AMQP1_NO_ENGINE && told.given == 7 && told.number == 7 && told.refusal == 7);

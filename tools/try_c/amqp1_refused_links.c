@@ -200,7 +200,7 @@ static void attach(void)
     DO(amqp1_link_on(&one, 7, record.input, AMQP1_RECEIVER, AMQP1_FIRST, "new", &link));
     if (amqp1_write_attach(text, sizeof text, &length, "new", 0, AMQP1_RECEIVER, 2, AMQP1_FIRST, "q", "q", 0) != AMQP1_DONE)
         exit(1);
-    DO(amqp1_link_attach(&one, 7, text, length, 1, 9, &link));
+    DO(amqp1_link_attach(&one, 7, text, length, text, 0, 1, 9, &link));
     DO(amqp1_link_wanted(&one, &record, link, &event));
     print("event", &event, sizeof event);
     while (status = amqp1_link_respond(&one, &event, 0), asks_again(status)) {

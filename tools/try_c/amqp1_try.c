@@ -170,6 +170,7 @@ int main(int count, char **words)
     try_streams();
     try_credit();
     try_endings();
+    try_waiting();
     try_faults();
     try_many();
     try_apart();

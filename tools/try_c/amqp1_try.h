@@ -99,6 +99,7 @@ void try_pairs(void);
 void try_streams(void);
 void try_credit(void);
 void try_endings(void);
+void try_waiting(void);
 void try_faults(void);
 void try_many(void);
 void try_apart(void);

@@ -14,7 +14,7 @@ trap 'rm -rf "$folder"' EXIT
 passed=0 failed=0
 . tools/try_c/counting.sh
 include=$prefix/include library=$prefix/lib
-tests=(tools/try_c/amqp1_{try,bytes,places,inputs,operations,takes,links,sends,cuts,writers,peers,sessions,pairs,streams,faces,credit,endings,faults,many,apart,recorded}.c)
+tests=(tools/try_c/amqp1_{try,bytes,places,inputs,operations,takes,links,sends,cuts,writers,peers,sessions,pairs,streams,faces,credit,endings,waiting,faults,many,apart,recorded}.c)
 strict=(-Wall -Wextra -Wpedantic -Wconversion -Wshadow -Werror -I"$include" -Itools/try_c)
 sanitized=(-g -O1 -fsanitize=address,undefined -fno-sanitize-recover=undefined)
 recorded=("$folder/exchanges" "$folder/recorded")

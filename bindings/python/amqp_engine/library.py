@@ -14,7 +14,7 @@ from typing import Any, Dict, Optional, Tuple
 #: What a function of the library answers; `enum amqp1_status` of `include/amqp1/records.h` has each
 DONE, REFUSED, NO_MEMORY, TOO_SMALL, BAD_ARGUMENT, NO_ENGINE = range(6)
 FULL, BAD_SIZE, SHORT, AGAIN, WAITS, OVER, TOO_LARGE, NOTHING, LOST, BROKEN, NOT_RELEASED, NOT_FORGOTTEN = range(7, 19)
-NOT_DETACHED, UNSETTLED, NOT_NEXT, NO_LINK, IN_USE = range(19, 24)
+NOT_DETACHED, UNSETTLED, NOT_NEXT, NO_LINK, IN_USE, HELD_BACK = range(19, 25)
 _FILE = "libamqp1.so.1"
 
 
@@ -70,14 +70,16 @@ class Ticked(ctypes.Structure):
 _NUMBER, _GIVEN, _SIZE, _BYTES, _AT = ctypes.c_uint32, ctypes.c_uint64, ctypes.c_size_t, ctypes.c_char_p, ctypes.c_void_p
 #: What the functions of links take behind the place: `include/amqp1/links.h` has each
 _OF_LINKS: Dict[str, Tuple[Any, ...]] = {
-    "attach": (_NUMBER, _BYTES, _SIZE, _NUMBER, _NUMBER, ctypes.POINTER(_NUMBER)),
+    "attach": (_NUMBER, _BYTES, _SIZE, _BYTES, _SIZE, _NUMBER, _NUMBER, ctypes.POINTER(_NUMBER)),
     "wanted": (_BYTES, _NUMBER, _AT),
     "event": (_BYTES, _GIVEN, _AT),
+    "due": (_NUMBER, _AT),
     "respond": (_BYTES, _NUMBER),
     "flow": (_NUMBER, _NUMBER, _NUMBER, _NUMBER),
     "detach": (_NUMBER, _NUMBER, _NUMBER, _BYTES, _SIZE),
     "send": (_BYTES, _BYTES, _SIZE, _GIVEN, _AT),
     "settle": (_NUMBER, _NUMBER, _NUMBER, _NUMBER, _NUMBER, ctypes.c_uint8),
+    "dispose": (_NUMBER, _BYTES, _SIZE),
     "settled": (_NUMBER, _NUMBER, _NUMBER, _NUMBER, _AT),
     "left": (_NUMBER, _NUMBER, _AT),
     "left_of": (_NUMBER, _NUMBER, _AT),

@@ -13,14 +13,14 @@ import struct
 from typing import Any, Iterator, NamedTuple, Optional
 
 from . import library as lib
-from .performatives import Attach, Error
-from .records import RECORD, Delivery, Record, head_of
+from .performatives import Attach, Disposition, Error
+from .records import FLOW, RECORD, Delivery, Record, head_of
 from .requesting import BadArgument, Requests
 
 #: What an event is: `LinkEvent.kind`; the comments of `include/amqp1/links.h` have each. One that is not named here is of a later version: pass over it
-EVENT_NOTHING, EVENT_ATTACHED, EVENT_FLOW, EVENT_PART, EVENT_PASSED_OVER, EVENT_FAULT, EVENT_SETTLED, EVENT_ENDED = range(8)
+EVENT_NOTHING, EVENT_ATTACHED, EVENT_FLOW, EVENT_PART, EVENT_PASSED_OVER, EVENT_FAULT, EVENT_SETTLED, EVENT_ENDED, EVENT_DUE = range(9)
 #: What an event says besides: `LinkEvent.flags`
-EVENT_FIRST, EVENT_LAST, EVENT_ABORTED, EVENT_PRESETTLED, EVENT_GIVEN, EVENT_FOR_GOOD, EVENT_RECEIVED = (1 << at for at in range(7))
+EVENT_FIRST, EVENT_LAST, EVENT_ABORTED, EVENT_PRESETTLED, EVENT_GIVEN, EVENT_FOR_GOOD, EVENT_RECEIVED, EVENT_BY_PEER = (1 << at for at in range(8))
 #: Where a link stands: `detail` of `EVENT_ATTACHED`
 LIFE_ATTACHING, LIFE_REFUSED, LIFE_ATTACHED, LIFE_DETACHING, LIFE_DETACHED = range(5)
 #: What a Detach of the peer's was: `detail` of `EVENT_ENDED`
@@ -89,8 +89,8 @@ def _number(given: int, bits: int = 32) -> int:
 class Links(Requests):
     """The links of one side of one connection.
 
-    What is refused raises `Refusal`: by the engine's name, or `NoLink`, `InUse`, `NotDetached`, `Unsettled`, `NotNext`. `NoMemory` says that nothing
-    changed."""
+    What is refused raises `Refusal`: by the engine's name, or `NoLink`, `InUse`, `NotDetached`, `Unsettled`, `NotNext`, `HeldBack`. `NoMemory` says that
+    nothing changed."""
 
     def __init__(self, functions: Any) -> None:
         """`functions` are those of the library."""
@@ -101,15 +101,15 @@ class Links(Requests):
         self._unsettled_room = ctypes.create_string_buffer(_UNSETTLED.size)
         self._number_room = ctypes.c_uint32()
 
-    def link_attach(self, session: int, attach: Attach, low: int = 0, high: int = 0) -> int:
+    def link_attach(self, session: int, attach: Attach, low: int = 0, high: int = 0, name: str = "") -> int:
         """Attaches a link: an Attach is to be sent, and the link has its end from then on, by the Attach's role. The Attach's handle is of no matter:
-        it gets the one that `link`, or `link_on`, has allotted to its name, and which is answered. A receiver renews its credit up to `high`, where
+        it gets the one that `link`, or `link_on`, has allotted to `name`, or, where that is empty, to its own, and which is answered. A receiver renews its credit up to `high`, where
         fewer than `low` are left; with a `high` of 0 never by itself. Its `max_message_size` is held against what comes. Raises `Refusal` where no
         handle is allotted to the name (`NoLink`), the handle has an end, which `link_remove` takes away (`InUse`), or the Attach is refused (section
         2.6.3)."""
-        perf = attach.encode()
-        renewal = (_number(low), _number(high))
-        self._judge(self._functions.amqp1_link_attach(self._here, _number(session), perf, len(perf), *renewal, ctypes.byref(self._number_room)))
+        perf, under, renewal = attach.encode(), name.encode(), (_number(low), _number(high))
+        given = (_number(session), perf, len(perf), under, len(under), *renewal)
+        self._judge(self._functions.amqp1_link_attach(self._here, *given, ctypes.byref(self._number_room)))
         return self._number_room.value
 
     def link_wanted(self, record: Record, link: int) -> LinkEvent:
@@ -129,27 +129,45 @@ class Links(Requests):
 
     def link_respond(self, event: LinkEvent, available: int = 0) -> bool:
         """Sends what a link owes for an event: a flow, where credit is to be renewed or the peer asked for one; a Detach, in answer to the peer's, or
-        for a fault. `available` is how many messages are ready to be sent on the link. False where it owes nothing."""
-        return self._is_done(self._functions.amqp1_link_respond(self._here, _EVENT.pack(*event), _number(available)))
+        for a fault. `available` is how many messages are ready to be sent on the link. False where it owes nothing, and where transfers of the link wait
+        for the peer's window: `link_due` tells when it is to be called again."""
+        status = self._functions.amqp1_link_respond(self._here, _EVENT.pack(*event), _number(available))
+        return status != lib.HELD_BACK and self._is_done(status)
+
+    def link_due(self, session: int) -> Optional[LinkEvent]:
+        """A link of the session of which a call was held back (`HeldBack`, or False of `link_respond`), once all that had been sent in the session by then
+        has gone out. Called after each record until it answers None, it tells each such link once: as an event of `EVENT_DUE`, for `link_respond`."""
+        if not self._is_done(self._functions.amqp1_link_due(self._here, _number(session), self._event_room)):
+            return None
+        return LinkEvent._make(_EVENT.unpack(self._event_room))
+
+    def link_pay(self, session: int) -> None:
+        """What links of the session owe that is due is sent."""
+        while (due := self.link_due(session)) is not None:
+            self.link_respond(due)
 
     def link_follow(self, record: Record) -> LinkEvent:
-        """A record is told to the links of its session, and what they owe for it is sent."""
+        """A record is told to the links of its session, and what they owe for it, and what is due, is sent."""
         event = self.link_event(record)
         if event.kind != EVENT_NOTHING:
             self.link_respond(event)
+        if record.kind == FLOW:
+            self.link_pay(record.session)
         return event
 
     def link_flow(self, session: int, link: int, wish: int, number: int = 0) -> bool:
         """Sends a flow of a link (sections 2.6.7 and 2.7.4): with `WISH_GRANT` a receiver grants so much credit, with `WISH_DRAIN` it has its sender
         use the credit up, with `WISH_RENEW` it renews its credit where its rule says so; with `WISH_ANSWER` either side answers what the peer asked
         for, where so many messages are ready. False where none is wanted: no end has the handle, it is not attached, it is a sender's and the wish a
-        receiver's, no credit is to be renewed, or nothing is to be answered."""
+        receiver's, no credit is to be renewed, or nothing is to be answered. Raises `Refusal` (`HeldBack`) where transfers of a sender wait for the
+        peer's window: `link_due` tells when it may be asked for again."""
         given = (_number(session), _number(link), _number(wish), _number(number))
         return self._is_done(self._functions.amqp1_link_flow(self._here, *given))
 
     def link_detach(self, session: int, link: int, closed: bool = False, error: Optional[Error] = None) -> bool:
         """Sends a Detach of a link (section 2.6.5), which ends it for good where it is `closed` (section 2.6.6). False where no end has the handle, or
-        this side's was sent before."""
+        this side's was sent before. Raises `Refusal` (`HeldBack`) where transfers of the link wait for the peer's window: `link_due` tells when it may be
+        asked for again."""
         perf = b"" if error is None else error.encode()
         return self._is_done(self._functions.amqp1_link_detach(self._here, _number(session), _number(link), closed, perf, len(perf)))
 
@@ -171,6 +189,11 @@ class Links(Requests):
         has no links."""
         given = (_number(session), role, _number(first), _number(last), settled, _number(outcome, 8))
         return self._is_done(self._functions.amqp1_link_settle(self._here, *given))
+
+    def link_dispose(self, session: int, disposition: Disposition) -> bool:
+        """The same by a Disposition of any state, as rejected with an error, or modified with its fields (part 3, sections 3.4.2 and 3.4.5)."""
+        perf = disposition.encode()
+        return self._is_done(self._functions.amqp1_link_dispose(self._here, _number(session), perf, len(perf)))
 
     def link_accept(self, event: LinkEvent) -> None:
         """The delivery of a part that has come is settled, as accepted, and let go."""

@@ -21,6 +21,7 @@ _BEGIN_ANSWER, _END_ANSWER, _LET_GO = range(34, 37)
 #: What is refused without a name of the engine's
 _REFUSED_AS = {
     lib.NOT_DETACHED: "NotDetached", lib.UNSETTLED: "Unsettled", lib.NOT_NEXT: "NotNext", lib.NO_LINK: "NoLink", lib.IN_USE: "InUse", lib.OVER: "Over",
+    lib.HELD_BACK: "HeldBack",
 }  # fmt: skip
 
 _R = TypeVar("_R", bound="Requests")

@@ -61,6 +61,7 @@ kept_number status.Unsettled = refl
 kept_number status.NotNext = refl
 kept_number status.NoLink = refl
 kept_number status.InUse = refl
+kept_number status.HeldBack = refl
 
 kept : (s : Status) (z : ℤ) → z ≡ pos (status_number s) → to_z w32 (of_z w32 z) ≡ z
 kept s z e = subst (λ (x : ℤ). to_z w32 (of_z w32 x) ≡ x) (sym e) (kept_number s)

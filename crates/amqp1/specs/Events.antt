@@ -1,6 +1,6 @@
 -- Part: other calls.
 -- What a record is to the links of its session, in the numbers that C is told; and what a link may owe for it.
-use Rattle.std.specs.Prelude.{ℕ, ◌+◌, ◌/◌, ◌%◌, Option, Some, None, if◌then◌else◌, is_some, nat_eq}
+use Rattle.std.specs.Prelude.{ℕ, Bool, ◌+◌, ◌/◌, ◌%◌, Option, Some, None, if◌then◌else◌, is_some, nat_eq}
 use Rattle.amqp_types.specs.declared.definitions.Role.{Role}
 use Rattle.amqp_types.specs.declared.definitions.Role.TheVariants.{Sender, Receiver}
 use Rattle.amqp_credit.specs.declared.part.PartEnd.{PartEnd}
@@ -93,6 +93,11 @@ part_event n h p credit = record (plain_event n 3 h 0 credit) {
   flags = part_flags p;
 }
 
+-- deliveries that are settled are of no link, so there is no credit
+abbrev pub settled_event : ℕ → Role → ℕ → ℕ → Bool → Event
+settled_event n role first last by_peer =
+    record (plain_event n 6 4294967295 0 0) { first = first; last = last; flags = role_flag role + bit by_peer 128 }
+
 abbrev pub event_of : ℕ → LinkEvent → ℕ → Event
 event_of n event.Nothing credit = plain_event n 0 4294967295 0 credit
 event_of n (event.Attached h l) credit = plain_event n 1 h (life_number l) credit
@@ -100,8 +105,9 @@ event_of n (event.Flow h used) credit = plain_event n 2 h used credit
 event_of n (event.Part h p) credit = part_event n h p credit
 event_of n (event.PassedOver h) credit = plain_event n 4 h 0 credit
 event_of n (event.Fault h f) credit = plain_event n 5 h (fault_number f) credit
-event_of n (event.Settled role first last) credit = record (plain_event n 6 4294967295 0 credit) { first = first; last = last; flags = role_flag role }
+event_of n (event.Settled role first last by_peer) credit = settled_event n role first last by_peer
 event_of n (event.Ended h e closed) credit = record (plain_event n 7 h (end_number e) credit) { flags = bit closed 32 }
+event_of n (event.Due h) credit = plain_event n 8 h 0 credit
 
 -- the link of an event, or none
 abbrev pub link_of : LinkEvent → ℕ
@@ -111,6 +117,7 @@ link_of (event.Part h p) = h
 link_of (event.PassedOver h) = h
 link_of (event.Fault h f) = h
 link_of (event.Ended h e closed) = h
+link_of (event.Due h) = h
 link_of e = 4294967295
 
 -- ---- and back: what a link may owe for it
@@ -119,6 +126,10 @@ abbrev pub fault_asked : ℕ → Option LinkFault → LinkEvent
 fault_asked h None = event.Nothing
 fault_asked h (Some f) = event.Fault h f
 
+-- the role of this side
+abbrev pub role_asked : ℕ → Role
+role_asked flags = if nat_eq (flags / 64 % 2) 1 then Receiver else Sender
+
 -- A part asks for what an Attach asks for: that credit is renewed. Which Detach it was is of no matter.
 abbrev pub event_asked : Event → LinkEvent
 event_asked e =
@@ -126,4 +137,6 @@ event_asked e =
     if nat_eq e.kind 3 then event.Attached e.link life.Attached else
     if nat_eq e.kind 2 then event.Flow e.link e.detail else
     if nat_eq e.kind 5 then fault_asked e.link (fault_at e.detail) else
-    if nat_eq e.kind 7 then event.Ended e.link end.ByPeer (nat_eq (e.flags / 32 % 2) 1) else event.Nothing
+    if nat_eq e.kind 7 then event.Ended e.link end.ByPeer (nat_eq (e.flags / 32 % 2) 1) else
+    if nat_eq e.kind 6 then event.Settled (role_asked e.flags) e.first e.last (nat_eq (e.flags / 128 % 2) 1) else
+    if nat_eq e.kind 8 then event.Due e.link else event.Nothing

@@ -1,8 +1,10 @@
 -- Part: other calls.
 -- The calls on a session's links, by the numbers and the bytes that C says, and what it is told.
 use Rattle.std.specs.Prelude.{◌≡◌, ◌⊎◌, ℕ, Bool, true, false, List, Option, Some, None, Result, Ok, Err, if◌then◌else◌, nat_eq, not}
+use Rattle.std.specs.Str.{IsUtf8}
 use Rattle.amqp_memory.specs.Refusal.{SomeRefused}
 use Rattle.amqp_types.specs.Attach.{AttachModel}
+use Rattle.amqp_types.specs.Disposition.{DispositionModel}
 use Rattle.amqp_types.specs.Error.{ErrorModel}
 use Rattle.amqp_types.specs.Performatives.{IsPerformative}
 use Rattle.amqp_types.specs.declared.definitions.Role.{Role}
@@ -20,7 +22,9 @@ use Rattle.amqp_links.specs.declared.session.granting.FlowWish.{FlowWish}
 use Rattle.amqp_links.specs.declared.session.granting.FlowWish.TheVariants as wish
 use Rattle.amqp_endpoints.specs.declared.endpoint.sending.SendFailure.{SendFailure}
 use Rattle.amqp_endpoints.specs.declared.endpoint.sending.SentDelivery.{SentDelivery}
+use Rattle.amqp_endpoints.specs.declared.endpoint.settling.NoMemory.{NoMemory}
 use Rattle.amqp_endpoints.specs.declared.event.LinkEvent.{LinkEvent}
+use Rattle.amqp_endpoints.specs.declared.event.LinkEvent.TheVariants as told
 use Rattle.amqp_endpoints.specs.declared.event.RecordError.{RecordError}
 use Rattle.amqp_endpoints.specs.declared.event.RecordError.TheVariants as no
 use Rattle.amqp1.specs.declared.delivered.Delivered.{Delivered}
@@ -30,7 +34,7 @@ use Rattle.amqp1.specs.declared.status.Status.{Status}
 use Rattle.amqp1.specs.declared.status.Status.TheVariants as status
 use Rattle.amqp1.specs.Delivering.{delivered_of, send_status, unsettled_of}
 use Rattle.amqp1.specs.Events.{event_asked, event_of, link_of}
-use Rattle.amqp1.specs.LinkCalls.{AttachesLinkOf, LeavesAllOf, LeavesOf, RemovesLink, SendsLink, SettlesLink, SettlesNextOf, TellsLinks, TellsWanted, detaching, responding, saying}
+use Rattle.amqp1.specs.LinkCalls.{AttachesLinkOf, DuesOf, LeavesAllOf, LeavesOf, RemovesLink, SendsLink, SettlesLink, SettlesLinkBy, SettlesNextOf, TellsLinks, TellsWanted, detaching, responding, saying}
 use Rattle.amqp1.specs.Occupant.{ForgetsLinks, Says, credit_at, links_of}
 use Rattle.amqp1.specs.OccupantView.{OccupantView}
 use Rattle.amqp1.specs.Reading.{IsErrorOrNone}
@@ -54,12 +58,12 @@ abbrev pub TellsLink : Result OutputHandle Status → ℕ → Status → ℕ →
 TellsLink (Ok h) old s new = (s ≡ status.Done) × (new ≡ h.0)
 TellsLink (Err e) old s new = (s ≡ e) × (new ≡ old)
 
--- The bytes are no Attach; or memory was refused for it; or the link is attached, or is not, for the reason that the status says.
-abbrev pub AttachesFor : Relays PlainRelay → ℕ → List ℕ → Option Renewal → ℕ → OccupantView → Status → ℕ → OccupantView → Type 0
-AttachesFor g n text renewal old o s new o' =
-    (AsksNone o s o' × (new ≡ old) × ((a : AttachModel) → ¬ IsPerformative (its.Attach a) text))
+-- The bytes are no Attach, or no name; or memory was refused for it; or the link is attached, or is not, for the reason that the status says.
+abbrev pub AttachesFor : Relays PlainRelay → ℕ → List ℕ → List ℕ → Option Renewal → ℕ → OccupantView → Status → ℕ → OccupantView → Type 0
+AttachesFor g n text name renewal old o s new o' =
+    (AsksNone o s o' × (new ≡ old) × (((a : AttachModel) → ¬ IsPerformative (its.Attach a) text) ⊎ (¬ IsUtf8 name)))
     ⊎ ((NoRoom o s o' × (new ≡ old))
-    ⊎ ((a : AttachModel) × IsPerformative (its.Attach a) text × (r : Result OutputHandle Status) × AttachesLinkOf g n a renewal o r o' × TellsLink r old s new))
+    ⊎ ((a : AttachModel) × IsPerformative (its.Attach a) text × (r : Result OutputHandle Status) × AttachesLinkOf g n name a renewal o r o' × TellsLink r old s new))
 
 -- ---- flows and Detaches
 
@@ -100,6 +104,14 @@ TellsFor r given old o s new o' = (e : Result LinkEvent RecordError) × TellsLin
 abbrev pub WantedFor : Record → ℕ → Event → OccupantView → Status → Event → OccupantView → Type 0
 WantedFor r h old o s new o' = (e : Result LinkEvent RecordError) × TellsWanted r h o e o' × TellsEvent r.session o' e old s new
 
+-- the link that is due is told; or there is none
+abbrev pub TellsDue : ℕ → OccupantView → LinkEvent → Event → Status → Event → Type 0
+TellsDue n o told.Nothing old s new = (s ≡ status.Nothing) × (new ≡ old)
+TellsDue n o e old s new = (s ≡ status.Done) × (new ≡ event_of n e (credit_at (links_of o n) (link_of e)))
+
+abbrev pub DueFor : ℕ → Event → OccupantView → Status → Event → OccupantView → Type 0
+DueFor n old o s new o' = (e : LinkEvent) × DuesOf n o e o' × TellsDue n o' e old s new
+
 -- ---- transfers
 
 abbrev pub SendsFor : Relays PlainRelay → TransferHead → List ℕ → ℕ → OccupantView → Status → Delivered → OccupantView → Type 0
@@ -112,6 +124,12 @@ abbrev pub SettlesFor : Relays PlainRelay → ℕ → Option Role → ℕ → �
 SettlesFor g n None first last settled outcome o s o' = AsksNone o s o'
 SettlesFor g n (Some role) first last settled outcome o s o' = SettlesLink g n role first last settled outcome o s o'
 
+-- The bytes are no Disposition; or memory was refused for it; or it is sent, or is not, as the status says.
+abbrev pub DisposesFor : Relays PlainRelay → ℕ → List ℕ → OccupantView → Status → OccupantView → Type 0
+DisposesFor g n text o s o' =
+    (AsksNone o s o' × ((d : DispositionModel) → ¬ IsPerformative (its.Disposition d) text))
+    ⊎ (NoRoom o s o' ⊎ ((d : DispositionModel) × IsPerformative (its.Disposition d) text × SettlesLinkBy g n d o s o'))
+
 -- the delivery is told, or there is none
 abbrev pub TellsUnsettled : Option Entry → Unsettled → Status → Unsettled → Type 0
 TellsUnsettled None old s new = (s ≡ status.Nothing) × (new ≡ old)
@@ -121,8 +139,13 @@ abbrev pub SettledFor : ℕ → Option Role → ℕ → ℕ → Unsettled → Oc
 SettledFor n None first last old o s new o' = AsksNone o s o' × (new ≡ old)
 SettledFor n (Some role) first last old o s new o' = (e : Option Entry) × SettlesNextOf n role first last o e o' × TellsUnsettled e old s new
 
-abbrev pub LeavesFor : ℕ → ℕ → Unsettled → OccupantView → Status → Unsettled → OccupantView → Type 0
-LeavesFor n h old o s new o' = (e : Option Entry) × LeavesOf n h o e o' × TellsUnsettled e old s new
+-- or memory was refused to let it go
+abbrev pub TellsLeft : Result (Option Entry) NoMemory → Unsettled → Status → Unsettled → Type 0
+TellsLeft (Ok e) old s new = TellsUnsettled e old s new
+TellsLeft (Err no_memory) old s new = (s ≡ status.NoMemory) × (new ≡ old)
+
+abbrev pub LeavesFor : Relays PlainRelay → ℕ → ℕ → Unsettled → OccupantView → Status → Unsettled → OccupantView → Type 0
+LeavesFor g n h old o s new o' = (r : Result (Option Entry) NoMemory) × LeavesOf g n h o r o' × TellsLeft r old s new
 
 abbrev pub LeavesAllFor : ℕ → Option Role → Unsettled → OccupantView → Status → Unsettled → OccupantView → Type 0
 LeavesAllFor n None old o s new o' = AsksNone o s o' × (new ≡ old)

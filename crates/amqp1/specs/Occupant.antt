@@ -3,12 +3,13 @@
 use Rattle.std.specs.Prelude.{◌≡◌, ℕ, Bool, Option, Some, None, is_some}
 use Rattle.std.specs.FinMap as map
 use Rattle.amqp_types.specs.declared.states.ConnectionState.{ConnectionState}
-use Rattle.amqp_driver.specs.declared.asked.Asked.{Asked}
 use Rattle.amqp_driver.specs.declared.plain.PlainRelay.{PlainRelay}
 use Rattle.amqp_driver.specs.Stream.{StreamView}
 use Rattle.amqp_links.specs.declared.end.End.{End}
 use Rattle.amqp_links.specs.declared.end.End.TheVariants as end
 use Rattle.amqp_links.specs.Ends.{end_at}
+use Rattle.amqp_endpoints.specs.declared.event.LinkAnswer.{LinkAnswer}
+use Rattle.amqp_endpoints.specs.declared.event.LinkAnswer.TheVariants as answer
 use Rattle.amqp_endpoints.specs.Endpoint.{EndpointView, new_endpoint}
 use Rattle.amqp1.specs.declared.status.Status.{Status}
 use Rattle.amqp1.specs.declared.status.Status.TheVariants as status
@@ -54,21 +55,22 @@ credit_at (Some v) h = credit_of (end_at v.links.ends h)
 
 -- ---- what is requested on a link
 
-abbrev pub said_status : Option Asked → Status
-said_status None = status.Nothing
-said_status (Some a) = status_of a
+abbrev pub said_status : LinkAnswer → Status
+said_status answer.NotWanted = status.Nothing
+said_status answer.HeldBack = status.HeldBack
+said_status (answer.Asked a) = status_of a
 
-abbrev pub last_said : RefusedModel → ConnectionState → Option Asked → RefusedModel
-last_said last s None = last
-last_said last s (Some a) = last_by last s a
+abbrev pub last_said : RefusedModel → ConnectionState → LinkAnswer → RefusedModel
+last_said last s (answer.Asked a) = last_by last s a
+last_said last s answer = last
 
 -- a step of the links of a session and of the stream, which may be a request
 abbrev pub Saying : Type 1
-Saying = EndpointView → StreamView PlainRelay → Option Asked → StreamView PlainRelay → EndpointView → Type 0
+Saying = EndpointView → StreamView PlainRelay → LinkAnswer → StreamView PlainRelay → EndpointView → Type 0
 
 -- The links take that step, with the stream of the client; the status says what became of the request, and a refusal is kept.
 abbrev pub LinksSay : Saying → EndpointView → ClientView → Status → ClientView → EndpointView → Type 0
-LinksSay Step v c s c' w = (a : Option Asked) × Step v c.stream a c'.stream w × (s ≡ said_status a)
+LinksSay Step v c s c' w = (a : LinkAnswer) × Step v c.stream a c'.stream w × (s ≡ said_status a)
     × (c'.last ≡ last_said c.last c'.stream.driver.engine.connection.state a)
 
 -- The links of the session do. Nothing happens where there are none.

@@ -38,6 +38,7 @@ status_number status.Unsettled = 20
 status_number status.NotNext = 21
 status_number status.NoLink = 22
 status_number status.InUse = 23
+status_number status.HeldBack = 24
 
 -- of a call of the driver that takes many
 abbrev pub taken_status : DriverStatus → Status

@@ -1,7 +1,7 @@
 //! What a record is to the links of its session, in numbers.
 
 ghost use Rattle.std.specs.Prelude.{◌≡◌};
-ghost use Rattle.amqp1.specs.Events.{end_number, ending_flag, event_asked, event_of, fault_at, fault_number, given_flag, given_or_none, life_number, link_of, part_event, part_flags, role_flag};
+ghost use Rattle.amqp1.specs.Events.{end_number, ending_flag, event_asked, event_of, fault_at, fault_number, given_flag, given_or_none, life_number, link_of, part_event, part_flags, role_flag, settled_event};
 
 use amqp_endpoints::LinkEvent;
 use amqp_links::{Life, LinkEnd, LinkFault, PartEnd, PartError, ReceivedPart};
@@ -17,7 +17,7 @@ pub struct Event {
     pub size: u64,
     /// The session.
     pub session: u32,
-    /// What it is: 0 nothing, 1 attached, 2 a flow, 3 a part, 4 passed over, 5 a fault, 6 settled, 7 ended.
+    /// What it is: 0 nothing, 1 attached, 2 a flow, 3 a part, 4 passed over, 5 a fault, 6 settled, 7 ended, 8 due.
     pub kind: u32,
     /// This side's handle of the link. 4294967295 where it is of none, as where deliveries are settled.
     pub link: u32,
@@ -30,7 +30,7 @@ pub struct Event {
     /// The credit of the link, after the event.
     pub credit: u32,
     /// 1 the first part of a delivery, 2 its last one, 4 it is aborted, 8 it is settled so far, 16 `given` says what was given, 32 the Detach is for good,
-    /// 64 the deliveries that are settled have come.
+    /// 64 the deliveries that are settled have come, 128 the peer has settled them.
     pub flags: u32,
 }
 
@@ -165,6 +165,18 @@ fn part_event(session: u32, link: u32, told: ReceivedPart, credit: u32) -> Event
     }
 }
 
+/// Deliveries are settled. They are of no link, so there is no credit.
+fn settled_event(session: u32, role: Role, first: u32, last: u32, by_peer: bool) -> Event
+    ensures { result ≡ settled_event session role first last by_peer }
+{
+    Event {
+        first,
+        last,
+        flags: role_flag(role) + if by_peer { 128 } else { 0 },
+        ..plain_event(session, 6, u32::MAX, 0, 0)
+    }
+}
+
 /// What a record is to the links of this session, in numbers, with the credit of its link.
 pub(crate) fn event_of(session: u32, event: LinkEvent, credit: u32) -> Event
     ensures { result ≡ event_of session event credit }
@@ -180,12 +192,12 @@ pub(crate) fn event_of(session: u32, event: LinkEvent, credit: u32) -> Event
         LinkEvent::Fault { handle, fault } => {
             plain_event(session, 5, handle, fault_number(fault), credit)
         }
-        LinkEvent::Settled { role, first, last } => Event {
+        LinkEvent::Settled {
+            role,
             first,
             last,
-            flags: role_flag(role),
-            ..plain_event(session, 6, u32::MAX, 0, credit)
-        },
+            by_peer,
+        } => settled_event(session, role, first, last, by_peer),
         LinkEvent::Ended {
             handle,
             end,
@@ -194,6 +206,7 @@ pub(crate) fn event_of(session: u32, event: LinkEvent, credit: u32) -> Event
             flags: if closed { 32 } else { 0 },
             ..plain_event(session, 7, handle, end_number(end), credit)
         },
+        LinkEvent::Due { handle } => plain_event(session, 8, handle, 0, credit),
     }
 }
 
@@ -207,6 +220,7 @@ pub(crate) fn link_of(event: &LinkEvent) -> u32
         | LinkEvent::Part { handle, part: _ }
         | LinkEvent::PassedOver { handle }
         | LinkEvent::Fault { handle, fault: _ }
+        | LinkEvent::Due { handle }
         | LinkEvent::Ended {
             handle,
             end: _,
@@ -217,6 +231,7 @@ pub(crate) fn link_of(event: &LinkEvent) -> u32
             role: _,
             first: _,
             last: _,
+            by_peer: _,
         } => u32::MAX,
     }
 }
@@ -244,6 +259,17 @@ pub(crate) fn event_asked(event: &Event) -> LinkEvent
             end: LinkEnd::ByPeer,
             closed: event.flags / 32 % 2 == 1,
         },
+        6 => LinkEvent::Settled {
+            role: if event.flags / 64 % 2 == 1 {
+                Role::Receiver
+            } else {
+                Role::Sender
+            },
+            first: event.first,
+            last: event.last,
+            by_peer: event.flags / 128 % 2 == 1,
+        },
+        8 => LinkEvent::Due { handle },
         _ => LinkEvent::Nothing,
     }
 }

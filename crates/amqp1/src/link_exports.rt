@@ -2,12 +2,11 @@
 
 ghost use Rattle.std.specs.Prelude.{◌≡◌, ◌<◌};
 ghost use Rattle.amqp1.specs.declared.status.Status.TheVariants as status;
-ghost use Rattle.amqp1.specs.LinkNumbers.{AttachesFor, DetachesFor, FlowsFor, ForgetsFor, LeavesAllFor, LeavesFor, RemovesFor, RespondsFor, SendsFor, SettledFor, SettlesFor, TellsFor, WantedFor, is_set, renewal_of, wish_at};
+ghost use Rattle.amqp1.specs.LinkNumbers.{AttachesFor, DetachesFor, DueFor, FlowsFor, RespondsFor, SendsFor, TellsFor, WantedFor, is_set, renewal_of, wish_at};
 ghost use Rattle.amqp1.specs.Place.{DoesThere, Is};
 ghost use Rattle.amqp1.specs.Occupant.{credit_at, links_of};
-ghost use Rattle.amqp1.specs.Reading.{role_of};
 
-use crate::delivered::{Delivered, Unsettled};
+use crate::delivered::Delivered;
 use crate::event::Event;
 use crate::place::Place;
 use crate::status::Status;
@@ -15,27 +14,28 @@ use amqp_driver::{PlainRelay, Record, TransferHead};
 use amqp_session::LinkRelay;
 use std::alloc::Global;
 
-/// Attaches a link, by `SessionEndpoint::attach`: `attach` is PERF of its Attach, by which it is a sender's or a receiver's; a handle has been allotted to
-/// its name. A receiver renews its credit from `low` up to `high`, unless that is 0. The handle goes to `link`. `NO_ENGINE`, and nothing is written, where nothing lies in the place.
+/// Attaches a link, by `SessionEndpoint::attach_under`: `attach` is PERF of its Attach, by which it is a sender's or a receiver's; a handle has been allotted to
+/// `name`, or, where that is empty, to its own. A receiver renews its credit from `low` up to `high`, unless that is 0. The handle goes to `link`. `NO_ENGINE`, and nothing is written, where nothing lies in the place.
 #[unsafe(no_mangle)]
 pub extern "C" fn amqp1_link_attach(
     alloc: Global,
     place: &mut Place,
     session: u32,
     attach: &[u8],
+    name: &[u8],
     low: u32,
     high: u32,
     link: &mut u32,
 ) -> i32
     ensures empty { place.old.full ≡ 0 → Is result status.NoEngine × (place.new.full ≡ 0) × (link.new ≡ link.old) }
     ensures attached { 0 < place.old.full → (0 < place.new.full)
-        × DoesThere place.old.slot.held result place.new.slot.held (λ o s o'. AttachesFor ⟦<PlainRelay as LinkRelay>⟧.gives session attach.now (renewal_of low high) link.old o s link.new o') }
+        × DoesThere place.old.slot.held result place.new.slot.held (λ o s o'. AttachesFor ⟦<PlainRelay as LinkRelay>⟧.gives session attach.now name.now (renewal_of low high) link.old o s link.new o') }
 {
     let old = std::mem::replace(place, Place::empty(alloc));
     match old.into_occupant() {
         None => Status::NoEngine.number(),
         Some(mut occupant) => {
-            let status = occupant.attach_for(session, attach, low, high, link);
+            let status = occupant.attach_for(session, attach, name, low, high, link);
             *place = Place::of(occupant);
             status.number()
         }
@@ -86,6 +86,30 @@ pub extern "C" fn amqp1_link_event(
         None => Status::NoEngine.number(),
         Some(mut occupant) => {
             let status = occupant.tell_for(record, given, event);
+            *place = Place::of(occupant);
+            status.number()
+        }
+    }
+}
+
+/// Tells a link of a session of which a call was held back for the peer's window, and is due, by `SessionEndpoint::due_next`. It goes to `event`. `NO_ENGINE`, and
+/// nothing is written, where nothing lies in the place.
+#[unsafe(no_mangle)]
+pub extern "C" fn amqp1_link_due(
+    alloc: Global,
+    place: &mut Place,
+    session: u32,
+    event: &mut Event,
+) -> i32
+    ensures empty { place.old.full ≡ 0 → Is result status.NoEngine × (place.new.full ≡ 0) × (event.new ≡ event.old) }
+    ensures told { 0 < place.old.full → (0 < place.new.full)
+        × DoesThere place.old.slot.held result place.new.slot.held (λ o s o'. DueFor session event.old o s event.new o') }
+{
+    let old = std::mem::replace(place, Place::empty(alloc));
+    match old.into_occupant() {
+        None => Status::NoEngine.number(),
+        Some(mut occupant) => {
+            let status = occupant.due_for(session, event);
             *place = Place::of(occupant);
             status.number()
         }
@@ -185,148 +209,6 @@ pub extern "C" fn amqp1_link_send(
         None => Status::NoEngine.number(),
         Some(mut occupant) => {
             let status = occupant.send_for(head, bytes, given, told);
-            *place = Place::of(occupant);
-            status.number()
-        }
-    }
-}
-
-/// Sends a disposition of deliveries, by `SessionEndpoint::settle`: `role` is this side's, 0 for the sender and 1 for the receiver. `NO_ENGINE` where nothing lies in the place.
-#[unsafe(no_mangle)]
-pub extern "C" fn amqp1_link_settle(
-    alloc: Global,
-    place: &mut Place,
-    session: u32,
-    role: u32,
-    first: u32,
-    last: u32,
-    settled: u32,
-    outcome: u8,
-) -> i32
-    ensures empty { place.old.full ≡ 0 → Is result status.NoEngine × (place.new.full ≡ 0) }
-    ensures settled { 0 < place.old.full → (0 < place.new.full)
-        × DoesThere place.old.slot.held result place.new.slot.held (λ o s o'. SettlesFor ⟦<PlainRelay as LinkRelay>⟧.gives session (role_of role) first last (is_set settled) outcome o s o') }
-{
-    let old = std::mem::replace(place, Place::empty(alloc));
-    match old.into_occupant() {
-        None => Status::NoEngine.number(),
-        Some(mut occupant) => {
-            let status = occupant.settle_for(session, role, first, last, settled, outcome);
-            *place = Place::of(occupant);
-            status.number()
-        }
-    }
-}
-
-/// Takes out the oldest unsettled delivery of a range, which is settled, by `SessionEndpoint::settled_next`. It goes to `told`. `NO_ENGINE`, and nothing is written, where nothing lies in the place.
-#[unsafe(no_mangle)]
-pub extern "C" fn amqp1_link_settled(
-    alloc: Global,
-    place: &mut Place,
-    session: u32,
-    role: u32,
-    first: u32,
-    last: u32,
-    told: &mut Unsettled,
-) -> i32
-    ensures empty { place.old.full ≡ 0 → Is result status.NoEngine × (place.new.full ≡ 0) × (told.new ≡ told.old) }
-    ensures given { 0 < place.old.full → (0 < place.new.full)
-        × DoesThere place.old.slot.held result place.new.slot.held (λ o s o'. SettledFor session (role_of role) first last told.old o s told.new o') }
-{
-    let old = std::mem::replace(place, Place::empty(alloc));
-    match old.into_occupant() {
-        None => Status::NoEngine.number(),
-        Some(mut occupant) => {
-            let status = occupant.settled_for(session, role, first, last, told);
-            *place = Place::of(occupant);
-            status.number()
-        }
-    }
-}
-
-/// Takes out the oldest delivery that is left on a link, by `SessionEndpoint::left_next`. It goes to `told`. `NO_ENGINE`, and nothing is written, where nothing lies in the place.
-#[unsafe(no_mangle)]
-pub extern "C" fn amqp1_link_left(
-    alloc: Global,
-    place: &mut Place,
-    session: u32,
-    link: u32,
-    told: &mut Unsettled,
-) -> i32
-    ensures empty { place.old.full ≡ 0 → Is result status.NoEngine × (place.new.full ≡ 0) × (told.new ≡ told.old) }
-    ensures given { 0 < place.old.full → (0 < place.new.full)
-        × DoesThere place.old.slot.held result place.new.slot.held (λ o s o'. LeavesFor session link told.old o s told.new o') }
-{
-    let old = std::mem::replace(place, Place::empty(alloc));
-    match old.into_occupant() {
-        None => Status::NoEngine.number(),
-        Some(mut occupant) => {
-            let status = occupant.left_for(session, link, told);
-            *place = Place::of(occupant);
-            status.number()
-        }
-    }
-}
-
-/// Takes out the oldest delivery that is left in a session which is over, by `SessionEndpoint::left_of_sent` or `left_of_received`. It goes to `told`. `NO_ENGINE`, and nothing is written, where nothing lies in the place.
-#[unsafe(no_mangle)]
-pub extern "C" fn amqp1_link_left_of(
-    alloc: Global,
-    place: &mut Place,
-    session: u32,
-    role: u32,
-    told: &mut Unsettled,
-) -> i32
-    ensures empty { place.old.full ≡ 0 → Is result status.NoEngine × (place.new.full ≡ 0) × (told.new ≡ told.old) }
-    ensures given { 0 < place.old.full → (0 < place.new.full)
-        × DoesThere place.old.slot.held result place.new.slot.held (λ o s o'. LeavesAllFor session (role_of role) told.old o s told.new o') }
-{
-    let old = std::mem::replace(place, Place::empty(alloc));
-    match old.into_occupant() {
-        None => Status::NoEngine.number(),
-        Some(mut occupant) => {
-            let status = occupant.left_of_for(session, role, told);
-            *place = Place::of(occupant);
-            status.number()
-        }
-    }
-}
-
-/// Takes a link away that is over, by `SessionEndpoint::remove`. `NO_ENGINE` where nothing lies in the place.
-#[unsafe(no_mangle)]
-pub extern "C" fn amqp1_link_remove(
-    alloc: Global,
-    place: &mut Place,
-    session: u32,
-    link: u32,
-) -> i32
-    ensures empty { place.old.full ≡ 0 → Is result status.NoEngine × (place.new.full ≡ 0) }
-    ensures removed { 0 < place.old.full → (0 < place.new.full)
-        × DoesThere place.old.slot.held result place.new.slot.held (λ o s o'. RemovesFor session link o s o') }
-{
-    let old = std::mem::replace(place, Place::empty(alloc));
-    match old.into_occupant() {
-        None => Status::NoEngine.number(),
-        Some(mut occupant) => {
-            let status = occupant.remove_for(session, link);
-            *place = Place::of(occupant);
-            status.number()
-        }
-    }
-}
-
-/// Lets the links of a session go: what is unsettled on them is not told any more. `NO_ENGINE` where nothing lies in the place.
-#[unsafe(no_mangle)]
-pub extern "C" fn amqp1_link_forget(alloc: Global, place: &mut Place, session: u32) -> i32
-    ensures empty { place.old.full ≡ 0 → Is result status.NoEngine × (place.new.full ≡ 0) }
-    ensures forgotten { 0 < place.old.full → (0 < place.new.full)
-        × DoesThere place.old.slot.held result place.new.slot.held (λ o s o'. ForgetsFor session o s o') }
-{
-    let old = std::mem::replace(place, Place::empty(alloc));
-    match old.into_occupant() {
-        None => Status::NoEngine.number(),
-        Some(mut occupant) => {
-            let status = occupant.forget_for(session);
             *place = Place::of(occupant);
             status.number()
         }

@@ -57,6 +57,8 @@ pub enum Status {
     NoLink,
     /// Of a link that is to be attached: its handle has an end already.
     InUse,
+    /// Of a flow or a Detach of a link: it would overtake transfers that wait for the peer's window. Nothing is sent; ask again once it is due.
+    HeldBack,
 }
 
 impl Status {
@@ -88,6 +90,7 @@ impl Status {
             Status::NotNext => 21,
             Status::NoLink => 22,
             Status::InUse => 23,
+            Status::HeldBack => 24,
         }
     }
 

@@ -1,5 +1,5 @@
 -- Whatever is called on an endpoint, its links go on by calls of a session's links.
-use Rattle.std.proofs.Common.{ℕ, ◌^◌, ◌<◌, ◌≡◌, inl, inr, not, nat_eq, Bool, true, false, List, [], ◌∷◌, ◌++◌, Option, Some, None, Result, Ok, Err, refl, ap}
+use Rattle.std.proofs.Common.{ℕ, ◌^◌, ◌<◌, ◌≡◌, ◌-◌, inl, inr, not, nat_eq, nat_le, Bool, true, false, List, [], ◌∷◌, ◌++◌, Option, Some, None, Result, Ok, Err, refl, ap}
 use Rattle.amqp_types.specs.Attach.{AttachModel}
 use Rattle.amqp_types.specs.Error.{ErrorModel}
 use Rattle.amqp_types.specs.declared.definitions.Role.{Role}
@@ -10,6 +10,7 @@ use Rattle.amqp_credit.proofs.ChainLemmas.{joined}
 use Rattle.amqp_session.specs.Relay.{Relays}
 use Rattle.amqp_session.specs.declared.numbers.OutputHandle.{OutputHandle}
 use Rattle.amqp_driver.specs.declared.asked.Asked.{Asked}
+use Rattle.amqp_driver.specs.declared.asked.Asked.TheVariants as asked
 use Rattle.amqp_driver.specs.declared.head.TransferHead.{TransferHead}
 use Rattle.amqp_driver.specs.declared.record.Record.{Record}
 use Rattle.amqp_driver.specs.Record.{number_or}
@@ -18,6 +19,7 @@ use Rattle.amqp_links.specs.declared.session.granting.FlowWish.{FlowWish}
 use Rattle.amqp_links.specs.declared.session.granting.FlowWish.TheVariants as wish
 use Rattle.amqp_links.specs.declared.session.granting.LinkFlow.{LinkFlow}
 use Rattle.amqp_links.specs.declared.session.granting.PreparedFlow.{PreparedFlow}
+use Rattle.amqp_links.specs.declared.session.attaching.PeerAttach.{PeerAttach}
 use Rattle.amqp_links.specs.declared.session.taking.TakePartError.TheVariants as take
 use Rattle.amqp_links.specs.declared.receiving.TransferError.TheVariants as error
 use Rattle.amqp_links.specs.Ends.{end_at}
@@ -29,6 +31,7 @@ use Rattle.amqp_links.specs.declared.receiving.LinkFault.{LinkFault}
 use Rattle.amqp_links.specs.declared.session.RemoveError.{RemoveError}
 use Rattle.amqp_links.specs.declared.session.sending.SentPart.{SentPart}
 use Rattle.amqp_links.specs.SendingParts.{SendsAt}
+use Rattle.amqp_links.specs.Settling.{left_at}
 use Rattle.amqp_links.proofs.HalvesLemmas.{halves_say}
 use Rattle.amqp_unsettled.specs.declared.entry.Entry.{Entry}
 use Rattle.amqp_endpoints.specs.declared.endpoint.attaching.AttachError.{AttachError}
@@ -36,19 +39,25 @@ use Rattle.amqp_endpoints.specs.declared.endpoint.attaching.AttachError.TheVaria
 use Rattle.amqp_endpoints.specs.declared.endpoint.sending.SendFailure.{SendFailure}
 use Rattle.amqp_endpoints.specs.declared.endpoint.sending.SendFailure.TheVariants as failed
 use Rattle.amqp_endpoints.specs.declared.endpoint.sending.SentDelivery.{SentDelivery}
+use Rattle.amqp_endpoints.specs.declared.endpoint.settling.NoMemory.{NoMemory}
+use Rattle.amqp_endpoints.specs.declared.event.LinkAnswer.{LinkAnswer}
+use Rattle.amqp_endpoints.specs.declared.event.LinkAnswer.TheVariants as answer
 use Rattle.amqp_endpoints.specs.declared.event.LinkEvent.{LinkEvent}
 use Rattle.amqp_endpoints.specs.declared.event.LinkEvent.TheVariants as event
 use Rattle.amqp_endpoints.specs.declared.event.RecordError.{RecordError}
 use Rattle.amqp_endpoints.specs.declared.event.RecordError.TheVariants as no
+use Rattle.amqp_endpoints.specs.declared.late.LateLink.{LateLink}
 use Rattle.amqp_endpoints.specs.Attaching.{AddsLink, AsksAttach, AttachesBy, AttachesUnder, FindsHandle, end_by_role, handle_named}
 use Rattle.amqp_endpoints.specs.Endpoint.{EndpointView, RemovesUnless, SettlesNext, Stands, new_endpoint}
-use Rattle.amqp_endpoints.specs.Flowing.{AsksEnd, DetachesFor, DetachesIf, EndsFor, EndsIfOwed, FinishesIf, Responds, SaysFlow, awaits, is_done}
+use Rattle.amqp_endpoints.specs.Flowing.{AsksDetach, AsksEnd, AsksFlow, DetachesFor, DetachesIf, EndsFor, EndsIfOwed, FinishesIf, Pays, Responds, SaysFlow, SaysPrepared, awaits, is_done}
 use Rattle.amqp_endpoints.specs.History.{EndpointCall, EndpointStep, HaveHistories, IsTold}
 use Rattle.amqp_endpoints.specs.History as history
 use Rattle.amqp_endpoints.specs.Places.{place_at}
-use Rattle.amqp_endpoints.specs.Reading.{credit_flow, part_head, peer_attach}
-use Rattle.amqp_endpoints.specs.Sending.{BeginsIf, SendsPart, is_first_of, part_of}
+use Rattle.amqp_endpoints.specs.Reading.{credit_flow, first_attach, part_head, peer_attach}
+use Rattle.amqp_endpoints.specs.Sending.{SendsPart, is_first_of, part_of}
+use Rattle.amqp_endpoints.specs.Settling.{IsLeft, LeavesBy, LeavesUnless, lacks_memory}
 use Rattle.amqp_endpoints.specs.Telling.{Choose, KeepsTag, OnRecord, OwesIf, TakesBy, TellsAny, TellsAttach, TellsDetach, TellsFlow, TellsLink, TellsOk, TellsPart, is_unanswered, keeps_tag, link_by, without_input}
+use Rattle.amqp_endpoints.specs.Waiting.{AsksUnless, DueIf, HoldsBack, IsAsked, ListsUnless, TakesDue, held_back, is_held_back}
 
 -- the links go on by calls of their own
 abbrev GoesOn : LinksView → LinksView → Type 0
@@ -69,18 +78,19 @@ choose false A B C there other h = other h
 
 -- ---- records
 
-attach_goes : (v w : EndpointView) (r : Record) (h : ℕ) (result : Result LinkEvent RecordError) → r.count < 2 ^ 32 → TellsAttach v r h result w
-    → GoesOn v.links w.links
-attach_goes v w r h (Ok (event.Attached k life)) small s = one v.links w.links (call.Attaches h (peer_attach r) (Some life)) (small, s.1.0)
-attach_goes v w r h (Ok event.Nothing) small s = still v w s.1
-attach_goes v w r h (Ok (event.Flow k used)) small s = absurd s
-attach_goes v w r h (Ok (event.Part k told)) small s = absurd s
-attach_goes v w r h (Ok (event.PassedOver k)) small s = absurd s
-attach_goes v w r h (Ok (event.Fault k f)) small s = absurd s
-attach_goes v w r h (Ok (event.Settled role first last)) small s = absurd s
-attach_goes v w r h (Ok (event.Ended k end closed)) small s = absurd s
-attach_goes v w r h (Err no.NotNext) small s = absurd s
-attach_goes v w r h (Err no.OutOfMemory) small s = still v w s.0
+attach_goes : (v w : EndpointView) (r : Record) (h : ℕ) (a : PeerAttach) (result : Result LinkEvent RecordError) → a.initial_delivery_count < 2 ^ 32
+    → TellsAttach v r h a result w → GoesOn v.links w.links
+attach_goes v w r h a (Ok (event.Attached k life)) small s = one v.links w.links (call.Attaches h a (Some life)) (small, s.1.0)
+attach_goes v w r h a (Ok event.Nothing) small s = still v w s.1
+attach_goes v w r h a (Ok (event.Flow k used)) small s = absurd s
+attach_goes v w r h a (Ok (event.Part k told)) small s = absurd s
+attach_goes v w r h a (Ok (event.PassedOver k)) small s = absurd s
+attach_goes v w r h a (Ok (event.Fault k f)) small s = absurd s
+attach_goes v w r h a (Ok (event.Settled role first last by_peer)) small s = absurd s
+attach_goes v w r h a (Ok (event.Ended k end closed)) small s = absurd s
+attach_goes v w r h a (Ok (event.Due k)) small s = absurd s
+attach_goes v w r h a (Err no.NotNext) small s = absurd s
+attach_goes v w r h a (Err no.OutOfMemory) small s = still v w s.0
 
 flow_goes : (v w : EndpointView) (r : Record) (h : ℕ) (e : LinkEvent) → TellsFlow v r h e w → GoesOn v.links w.links
 flow_goes v w r h (event.Flow k used) s = one v.links w.links (call.Flows h (credit_flow r) (Some (Ok used))) s.1.0
@@ -89,8 +99,9 @@ flow_goes v w r h event.Nothing s = one v.links w.links (call.Flows h (credit_fl
 flow_goes v w r h (event.Attached k life) s = absurd s
 flow_goes v w r h (event.Part k told) s = absurd s
 flow_goes v w r h (event.PassedOver k) s = absurd s
-flow_goes v w r h (event.Settled role first last) s = absurd s
+flow_goes v w r h (event.Settled role first last by_peer) s = absurd s
 flow_goes v w r h (event.Ended k end closed) s = absurd s
+flow_goes v w r h (event.Due k) s = absurd s
 
 keeps : (b : Bool) (v w : EndpointView) (r : Record) (h : ℕ) (Step : LinksView → LinksView → Type 0) → KeepsTag b v r h Step w → Step v.links w.links
 keeps true v w r h Step s = s.0
@@ -112,23 +123,25 @@ part_goes v w r h given (Err no.OutOfMemory) small s =
     one v.links w.links (call.Takes h (part_head (place_at v.places h) r) given (Err take.OutOfMemory)) (tt, s.0)
 part_goes v w r h given (Ok (event.Attached k life)) small s = absurd s
 part_goes v w r h given (Ok (event.Flow k used)) small s = absurd s
-part_goes v w r h given (Ok (event.Settled role first last)) small s = absurd s
+part_goes v w r h given (Ok (event.Settled role first last by_peer)) small s = absurd s
 part_goes v w r h given (Ok (event.Ended k end closed)) small s = absurd s
+part_goes v w r h given (Ok (event.Due k)) small s = absurd s
 
-owes : (b : Bool) (v w : EndpointView) (h : ℕ) (Step : LinksView → LinksView → Type 0) → OwesIf b v h Step w → Step v.links w.links
-owes true v w h Step s = s.0
-owes false v w h Step s = s.0
+owes : (b : Bool) (v w : EndpointView) (h : ℕ) (closes : Bool) (Step : LinksView → LinksView → Type 0) → OwesIf b v h closes Step w → Step v.links w.links
+owes true v w h closes Step s = s.0
+owes false v w h closes Step s = s.0
 
 detach_goes : (v w : EndpointView) (r : Record) (h : ℕ) (e : LinkEvent) → TellsDetach v r h e w → GoesOn v.links w.links
 detach_goes v w r h (event.Ended k end closed) s = one v.links w.links (call.Ends h (Some end))
-    (owes (is_unanswered end) (without_input v r) w h (λ l m. _) s.2)
+    (owes (is_unanswered end) (without_input v r) w h closed (λ l m. _) s.2)
 detach_goes v w r h event.Nothing s = one v.links w.links (call.Ends h None) s.0
 detach_goes v w r h (event.Attached k life) s = absurd s
 detach_goes v w r h (event.Flow k used) s = absurd s
 detach_goes v w r h (event.Part k told) s = absurd s
 detach_goes v w r h (event.PassedOver k) s = absurd s
 detach_goes v w r h (event.Fault k f) s = absurd s
-detach_goes v w r h (event.Settled role first last) s = absurd s
+detach_goes v w r h (event.Settled role first last by_peer) s = absurd s
+detach_goes v w r h (event.Due k) s = absurd s
 
 ok_goes : (v w : EndpointView) (Tells : LinkEvent → EndpointView → Type 0) (result : Result LinkEvent RecordError)
     → ((e : LinkEvent) → Tells e w → GoesOn v.links w.links) → TellsOk Tells result w → GoesOn v.links w.links
@@ -140,7 +153,7 @@ link_goes : (v w : EndpointView) (r : Record) (h given : ℕ) (result : Result L
 link_goes v w r h given result small told =
     choose (nat_eq r.kind 6) _ _ _ (part_goes v w r h given result told)
     (choose (nat_eq r.kind 5) _ _ _ (ok_goes v w (TellsFlow v r h) result (flow_goes v w r h))
-    (choose (nat_eq r.kind 3) _ _ _ (attach_goes v w r h result small)
+    (choose (nat_eq r.kind 3) _ _ _ (attach_goes v w r h (peer_attach r) result small)
     (choose (nat_eq r.kind 8) _ _ _ (ok_goes v w (TellsDetach v r h) result (detach_goes v w r h))
     (λ s. still v w s.1))))
 
@@ -217,10 +230,40 @@ finishes_goes true wished v w h q prepares x =
     one v.links w.links (call_of wished h (Some q.said)) (step_of wished v.links w.links h q.said (halves_say wished v.links w.links h q prepares x.0))
 finishes_goes false wished v w h q prepares x = still v w x
 
-says_goes : {R : Type 0} (g : Relays R) (v w : EndpointView) (s s' : StreamView R) (h : ℕ) (wished : FlowWish) (answer : Option Asked)
+-- a call that waits changes no link
+lists_goes : (b : Bool) (v w : EndpointView) (h : ℕ) → ListsUnless b v h w → GoesOn v.links w.links
+lists_goes true v w h x = still v w x
+lists_goes false v w h x = ([], ap (λ (y : EndpointView). y.links) x.1)
+
+holds_goes : (v w : EndpointView) (h : ℕ) (answer : LinkAnswer) → HoldsBack v h answer w → GoesOn v.links w.links
+holds_goes v w h answer.HeldBack x = lists_goes (place_at v.places h).is_listed v w h x
+holds_goes v w h (answer.Asked asked.NoMemory) x = still v w x.0
+holds_goes v w h (answer.Asked asked.Done) x = absurd x
+holds_goes v w h (answer.Asked asked.TooLarge) x = absurd x
+holds_goes v w h (answer.Asked (asked.Refused e)) x = absurd x
+holds_goes v w h (answer.Asked asked.Over) x = absurd x
+holds_goes v w h answer.NotWanted x = absurd x
+
+is_asked : {R : Type 0} (Asks : Asked → StreamView R → EndpointView → Type 0) (v w : EndpointView) (s' : StreamView R) (answer : LinkAnswer)
+    → ((a : Asked) → Asks a s' w → GoesOn v.links w.links) → IsAsked Asks answer s' w → GoesOn v.links w.links
+is_asked Asks v w s' (answer.Asked a) each x = each a x
+is_asked Asks v w s' answer.HeldBack each x = absurd x
+is_asked Asks v w s' answer.NotWanted each x = absurd x
+
+unless_goes : {R : Type 0} (b : Bool) (Asks : Asked → StreamView R → EndpointView → Type 0) (v w : EndpointView) (s s' : StreamView R) (h : ℕ)
+    (answer : LinkAnswer) → ((a : Asked) → Asks a s' w → GoesOn v.links w.links) → AsksUnless b Asks v s h answer s' w → GoesOn v.links w.links
+unless_goes true Asks v w s s' h answer each x = holds_goes v w h answer x.0
+unless_goes false Asks v w s s' h answer each x = is_asked Asks v w s' answer each x
+
+prepared_goes : {R : Type 0} (g : Relays R) (prepared : Option PreparedFlow) (v w : EndpointView) (s s' : StreamView R) (h : ℕ) (wished : FlowWish)
+    (answer : LinkAnswer) → PreparesFlow wished (end_at v.links.ends h) h prepared → SaysPrepared prepared g v s h answer s' w → GoesOn v.links w.links
+prepared_goes g None v w s s' h wished answer prepares x = still v w x.2
+prepared_goes g (Some q) v w s s' h wished answer prepares x = unless_goes (is_held_back v s h) (λ a s' w. AsksFlow g v s h q a s' w) v w s s' h answer
+    (λ a y. finishes_goes (is_done a) wished v w h q prepares y.1) x
+
+says_goes : {R : Type 0} (g : Relays R) (v w : EndpointView) (s s' : StreamView R) (h : ℕ) (wished : FlowWish) (answer : LinkAnswer)
     → SaysFlow g v s h wished answer s' w → GoesOn v.links w.links
-says_goes g v w s s' h wished None x = still v w x.2
-says_goes g v w s s' h wished (Some a) x = finishes_goes (is_done a) wished v w h x.0 x.1 x.2.1
+says_goes g v w s s' h wished answer x = prepared_goes g x.0 v w s s' h wished answer x.1 x.2
 
 -- ---- Detaches
 
@@ -229,46 +272,59 @@ detached_goes true v w h x = one v.links w.links (call.Detaches h x.0) x.1.0
 detached_goes false v w h x = still v w x
 
 detaches_by : {R : Type 0} (g : Relays R) (o : Option Bool) (v w : EndpointView) (s s' : StreamView R) (h : ℕ) (closed : Bool) (e : Option ErrorModel)
-    (answer : Option Asked) → DetachesFor o g v s h closed e answer s' w → GoesOn v.links w.links
+    (answer : LinkAnswer) → DetachesFor o g v s h closed e answer s' w → GoesOn v.links w.links
 detaches_by g None v w s s' h closed e answer x = still v w x.2
-detaches_by g (Some waits) v w s s' h closed e answer x = detached_goes (is_done x.0) v w h x.2.1
+detaches_by g (Some waits) v w s s' h closed e answer x =
+    unless_goes (is_held_back v s h) (λ a s' w. AsksDetach g v s h closed e waits a s' w) v w s s' h answer (λ a y. detached_goes (is_done a) v w h y.1) x
 
 asks_end_goes : {R : Type 0} (g : Relays R) (v w : EndpointView) (s s' : StreamView R) (h : ℕ) (f : LinkFault) (waits : Bool) (a : Asked)
     → AsksEnd g v s h f waits a s' w → GoesOn v.links w.links
 asks_end_goes g v w s s' h f waits a (inl x) = detached_goes (is_done a) v w h x.1
 asks_end_goes g v w s s' h f waits a (inr x) = still v w x.2
 
-ends_by : {R : Type 0} (g : Relays R) (o : Option Bool) (v w : EndpointView) (s s' : StreamView R) (h : ℕ) (f : LinkFault) (answer : Option Asked)
+ends_by : {R : Type 0} (g : Relays R) (o : Option Bool) (v w : EndpointView) (s s' : StreamView R) (h : ℕ) (f : LinkFault) (answer : LinkAnswer)
     → EndsIfOwed o g v s h f answer s' w → GoesOn v.links w.links
 ends_by g None v w s s' h f answer x = still v w x.2
-ends_by g (Some waits) v w s s' h f answer x = asks_end_goes g v w s s' h f waits x.0 x.2
+ends_by g (Some waits) v w s s' h f answer x =
+    is_asked (λ a s' w. AsksEnd g v s h f waits a s' w) v w s' answer (λ a y. asks_end_goes g v w s s' h f waits a y) x
 
-ends_goes : {R : Type 0} (g : Relays R) (v w : EndpointView) (s s' : StreamView R) (h : ℕ) (f : LinkFault) (answer : Option Asked)
+ends_goes : {R : Type 0} (g : Relays R) (v w : EndpointView) (s s' : StreamView R) (h : ℕ) (f : LinkFault) (answer : LinkAnswer)
     → EndsFor g v s h f answer s' w → GoesOn v.links w.links
 ends_goes g v w s s' h f answer x = ends_by g (awaits v h) v w s s' h f answer x
 
-responds_goes : {R : Type 0} (g : Relays R) (v w : EndpointView) (s s' : StreamView R) (e : LinkEvent) (available : ℕ) (answer : Option Asked)
+pays_goes : {R : Type 0} (g : Relays R) (owes : Bool) (v w : EndpointView) (s s' : StreamView R) (h available : ℕ) (answer : LinkAnswer)
+    → Pays owes g v s h available answer s' w → GoesOn v.links w.links
+pays_goes g true v w s s' h available answer x = detaches_by g (awaits v h) v w s s' h (place_at v.places h).closes None answer x
+pays_goes g false v w s s' h available answer x = says_goes g v w s s' h (wish.Answer available) answer x
+
+responds_goes : {R : Type 0} (g : Relays R) (v w : EndpointView) (s s' : StreamView R) (e : LinkEvent) (available : ℕ) (answer : LinkAnswer)
     → Responds g v s e available answer s' w → GoesOn v.links w.links
 responds_goes g v w s s' (event.Attached h life) available answer x = says_goes g v w s s' h wish.Renew answer x
 responds_goes g v w s s' (event.Part h told) available answer x = says_goes g v w s s' h wish.Renew answer x
 responds_goes g v w s s' (event.Flow h used) available answer x = says_goes g v w s s' h (wish.Answer available) answer x
 responds_goes g v w s s' (event.Fault h f) available answer x = ends_goes g v w s s' h f answer x
 responds_goes g v w s s' (event.Ended h end closed) available answer x = detaches_by g (awaits v h) v w s s' h closed None answer x
+responds_goes g v w s s' (event.Due h) available answer x = pays_goes g (place_at v.places h).owes v w s s' h available answer x
+responds_goes g v w s s' (event.Settled role first last by_peer) available answer x = still v w x.1
 responds_goes g v w s s' event.Nothing available answer x = still v w x.2
 responds_goes g v w s s' (event.PassedOver h) available answer x = still v w x.2
-responds_goes g v w s s' (event.Settled role first last) available answer x = still v w x.2
+
+-- what is due changes no link
+due_goes : (b : Bool) (l : LateLink) (ls : List LateLink) (v w : EndpointView) (e : LinkEvent) → DueIf b l ls v e w → GoesOn v.links w.links
+due_goes true l ls v w e x = ([], ap (λ (y : EndpointView). y.links) x.2)
+due_goes false l ls v w e x = still v w x.1
+
+dues_go : {R : Type 0} (ls : List LateLink) (v w : EndpointView) (s : StreamView R) (e : LinkEvent) → TakesDue ls v s e w → GoesOn v.links w.links
+dues_go [] v w s e x = still v w x.1
+dues_go (l ∷ ls) v w s e x = due_goes (nat_le (held_back v s) (v.sent - l.sent)) l ls v w e x
 
 -- ---- transfers
-
-begins : (b : Bool) (v w : EndpointView) (h n : ℕ) (Step : LinksView → LinksView → Type 0) → BeginsIf b v h n Step w → Step v.links w.links
-begins true v w h n Step x = x.0
-begins false v w h n Step x = x.0
 
 sends_goes : {R : Type 0} (g : Relays R) (v w : EndpointView) (s s' : StreamView R) (head : TransferHead) (bytes : List ℕ) (p : SentPart) (first : Bool)
     (result : Result SentDelivery SendFailure) → p.number < 2 ^ 32 → SendsPart g v s head bytes p first result s' w → GoesOn v.links w.links
 sends_goes g v w s s' head bytes p first (Ok told) small x =
     one v.links w.links (call.Sends head.link p (Ok told.settled))
-    (small, begins first v w head.link p.number (λ l m. SendsAt (end_at l.ends head.link) l head.link p (Ok told.settled) m) x.2)
+    (small, x.2.0)
 sends_goes g v w s s' head bytes p first (Err (failed.Link e)) small x = still v w x.2
 sends_goes g v w s s' head bytes p first (Err (failed.Refused why)) small x = still v w x.1
 sends_goes g v w s s' head bytes p first (Err (failed.Stopped why)) small x = still v w x.1
@@ -279,6 +335,19 @@ settles_goes : (v w : EndpointView) (r : Role) (first last : ℕ) (given : Optio
 settles_goes v w role.Sender first last given x = one v.links w.links (call.SettlesOfSent first last given) x.0
 settles_goes v w role.Receiver first last given x = one v.links w.links (call.SettlesOfReceived first last given) x.0
 
+left_goes : (v w : EndpointView) (h : ℕ) (result : Result (Option Entry) NoMemory) → IsLeft result v h w → GoesOn v.links w.links
+left_goes v w h (Ok given) x = one v.links w.links (call.Leaves h given) x.0
+left_goes v w h (Err e) x = absurd x
+
+leaves_unless : (b : Bool) (v w : EndpointView) (h : ℕ) (result : Result (Option Entry) NoMemory) → LeavesUnless b v h result w → GoesOn v.links w.links
+leaves_unless true v w h result x = still v w x.1
+leaves_unless false v w h result x = left_goes v w h result x
+
+leaves_by : {R : Type 0} (g : Relays R) (o : Option Entry) (v w : EndpointView) (s s' : StreamView R) (h : ℕ) (result : Result (Option Entry) NoMemory)
+    → LeavesBy o g v s h result s' w → GoesOn v.links w.links
+leaves_by g None v w s s' h result x = still v w x.2
+leaves_by g (Some e) v w s s' h result x = leaves_unless (lacks_memory x.0) v w h result x.2
+
 removes_goes : (b : Bool) (v w : EndpointView) (h : ℕ) (result : Result (Unit {0}) RemoveError) → RemovesUnless b v h result w → GoesOn v.links w.links
 removes_goes true v w h result x = still v w x.1
 removes_goes false v w h result x = one v.links w.links (call.Removes h result) x.0
@@ -287,7 +356,7 @@ removes_goes false v w h result x = one v.links w.links (call.Removes h result) 
 
 step_goes : {R : Type 0} (g : Relays R) (v w : EndpointView) (c : EndpointCall) → EndpointStep g v c w → GoesOn v.links w.links
 step_goes g v w (history.Told r given result) x = record_goes v w r given result x.0 x.1 x.2
-step_goes g v w (history.Wanted r h result) x = attach_goes v w r h result x.0 x.1
+step_goes g v w (history.Wanted r h result) x = attach_goes v w r h (first_attach r) result x.0 x.1
 step_goes g v w (history.Attaches a renewal result) x = attached_goes g a.name v w x.0 x.1 a renewal result x.2 x.3
 step_goes g v w (history.AttachesNamed name a renewal result) x = attached_goes g name v w x.0 x.1 a renewal result x.2 x.3
 step_goes g v w (history.Says h wished answer) x = says_goes g v w x.0 x.1 h wished answer x.2
@@ -296,7 +365,8 @@ step_goes g v w (history.Responds e available answer) x = responds_goes g v w x.
 step_goes g v w (history.Sends head bytes given result) x = sends_goes g v w x.0 x.1 head bytes
     (part_of v x.0 head given (is_first_of (end_at v.links.ends head.link))) (is_first_of (end_at v.links.ends head.link)) result x.2 x.3
 step_goes g v w (history.Settles r first last given) x = settles_goes v w r first last given x
-step_goes g v w (history.Leaves h given) x = one v.links w.links (call.Leaves h given) x.0
+step_goes g v w (history.TellsDue e) x = dues_go v.late v w x.0 e x.1
+step_goes g v w (history.Leaves h result) x = leaves_by g (left_at (end_at v.links.ends h) v.links h) v w x.0 x.1 h result x.2
 step_goes g v w (history.LeavesOfSent given) x = one v.links w.links (call.LeavesOfSent given) x.0
 step_goes g v w (history.LeavesOfReceived given) x = one v.links w.links (call.LeavesOfReceived given) x.0
 step_goes g v w (history.RemovesLink h result) x = removes_goes (place_at v.places h).owes v w h result x

@@ -20,7 +20,7 @@ use Rattle.amqp_endpoints.specs.declared.endpoint.sending.SendFailure.{SendFailu
 use Rattle.amqp_endpoints.specs.declared.endpoint.sending.SendFailure.TheVariants.{Link, Refused, Stopped}
 use Rattle.amqp_endpoints.specs.declared.endpoint.sending.SentDelivery.{SentDelivery}
 use Rattle.amqp_endpoints.specs.Endpoint.{EndpointView, OnLinks}
-use Rattle.amqp_endpoints.specs.Sending.{AsksPart, BeginsIf, SendsPart, is_first_of}
+use Rattle.amqp_endpoints.specs.Sending.{AsksPart, NotesSent, SendsPart, is_first_of}
 
 abbrev is_fine : {A E : Type 0} → Result A E → Type 0
 is_fine (Ok x) = Unit {0}
@@ -46,9 +46,8 @@ asked_for (Some (Sending s)) v m h p q x =
 
 -- what is begun on a link, by what its links do
 begins : (b : Bool) (v w : EndpointView) (m : LinksView) (h n : ℕ) (Step Whole : LinksView → LinksView → Type 0)
-    → (Step m w.links → Whole v.links w.links) → BeginsIf b (record v { links = m }) h n Step w → BeginsIf b v h n Whole w
-begins true v w m h n Step Whole whole x = (whole x.0, x.1, x.2)
-begins false v w m h n Step Whole whole x = (whole x.0, x.1)
+    → (Step m w.links → Whole v.links w.links) → NotesSent b (record v { links = m }) h n Step w → NotesSent b v h n Whole w
+begins b v w m h n Step Whole whole x = (whole x.0, x.1, x.2)
 
 finished : {R : Type 0} (g : Relays R) (v w : EndpointView) (m : LinksView) (s s' : StreamView R) (head : TransferHead) (bytes : List ℕ) (p : SentPart)
     (first : Bool) (q : PreparedPart) (told : SentDelivery) → q.part ≡ p → q.is_first ≡ first
@@ -56,9 +55,9 @@ finished : {R : Type 0} (g : Relays R) (v w : EndpointView) (m : LinksView) (s s
     → AsksPart g (record v { links = m }) s head bytes first q (Ok told) s' w → SendsPart g v s head bytes p first (Ok told) s' w
 finished g v w m s s' head bytes p first q told part is prepares x =
     let number : q.part.number ≡ p.number = ap (λ (y : SentPart). y.number) part in
-    let begun : BeginsIf first (record v { links = m }) head.link p.number (λ l n. FinishesAt (end_at l.ends q.handle) q l told.settled n) w =
-    subst (λ n. BeginsIf first (record v { links = m }) head.link n (λ l n. FinishesAt (end_at l.ends q.handle) q l told.settled n) w) number
-    (subst (λ b. BeginsIf b (record v { links = m }) head.link q.part.number (λ l n. FinishesAt (end_at l.ends q.handle) q l told.settled n) w) is x.1.1) in (
+    let begun : NotesSent first (record v { links = m }) head.link p.number (λ l n. FinishesAt (end_at l.ends q.handle) q l told.settled n) w =
+    subst (λ n. NotesSent first (record v { links = m }) head.link n (λ l n. FinishesAt (end_at l.ends q.handle) q l told.settled n) w) number
+    (subst (λ b. NotesSent b (record v { links = m }) head.link q.part.number (λ l n. FinishesAt (end_at l.ends q.handle) q l told.settled n) w) is x.1.1) in (
       x.0,
       x.1.0 ∙ number,
       begins first v w m head.link p.number (λ l n. FinishesAt (end_at l.ends q.handle) q l told.settled n)

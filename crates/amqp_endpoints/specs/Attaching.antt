@@ -26,7 +26,8 @@ use Rattle.amqp_endpoints.specs.declared.endpoint.attaching.AttachError.TheVaria
 use Rattle.amqp_endpoints.specs.declared.endpoint.attaching.NewEnd.{NewEnd}
 use Rattle.amqp_endpoints.specs.declared.endpoint.attaching.NewEnd.TheVariants.{Sending, Receiving}
 use Rattle.amqp_endpoints.specs.Endpoint.{EndpointView, HasRoom, Stands}
-use Rattle.amqp_endpoints.specs.Places.{no_place}
+use Rattle.amqp_endpoints.specs.declared.place.LinkPlace.{LinkPlace}
+use Rattle.amqp_endpoints.specs.Places.{no_place, place_at}
 use Rattle.amqp_endpoints.specs.Telling.{OnPlace}
 
 -- the handle that is allotted to a live link of this name
@@ -55,8 +56,12 @@ said_attach a h = record a { handle = h.0; initial_delivery_count = count_said a
 
 -- ---- the link has its end
 
+-- nothing of what lay there stays, but whether it is listed
+abbrev pub fresh_place : EndpointView → ℕ → LinkPlace
+fresh_place v h = record no_place { is_listed = (place_at v.places h).is_listed }
+
 abbrev pub AddsLink : EndpointView → ℕ → NewEnd → EndpointView → Type 0
-AddsLink v h e w = OnPlace (λ l m. AddsEnd l h (end_by e) (Ok tt) m) h no_place v w
+AddsLink v h e w = OnPlace (λ l m. AddsEnd l h (end_by e) (Ok tt) m) h (fresh_place v h) v w
 
 -- It is requested; and the link has its end where that is done, and none else.
 abbrev pub AsksAttach : {R : Type 0} → Relays R → EndpointView → StreamView R → AttachModel → OutputHandle → NewEnd

@@ -13,6 +13,7 @@ use Rattle.amqp_links.specs.declared.session.RemoveError.TheVariants.{NotDetache
 use Rattle.amqp_links.specs.Ends.{end_at}
 use Rattle.amqp_links.specs.Session.{LinksView, no_links, HasSameEnds, RemovesEnd}
 use Rattle.amqp_links.specs.Settling.{SettlesSent, SettlesReceived, LeavesNext, LeavesSentOfAll, LeavesReceivedOfAll}
+use Rattle.amqp_endpoints.specs.declared.late.LateLink.{LateLink}
 use Rattle.amqp_endpoints.specs.declared.place.LinkPlace.{LinkPlace}
 use Rattle.amqp_endpoints.specs.Places.{place_at}
 
@@ -23,15 +24,18 @@ InputTable = map.FinMap nat_cmp ℕ
 abbrev pub input_table_code : Coded InputTable
 input_table_code = map.code coded_ℕ coded_ℕ
 
--- Its session, its links, what is kept of each beside its end, and which links the peer's handles mean.
+-- Its session, its links, what is kept of each beside its end, and which links the peer's handles mean; how many transfers it has sent, and the links of which
+-- a call waits for the peer's window, the oldest call first.
 pub record EndpointView : Type 0 where
   pub session : SessionNo
   pub links : LinksView
   pub places : List LinkPlace
   pub inputs : InputTable
+  pub sent : ℕ
+  pub late : List LateLink
 
 abbrev pub new_endpoint : SessionNo → EndpointView
-new_endpoint n = record { session = n; links = no_links; places = []; inputs = map.empty }
+new_endpoint n = record { session = n; links = no_links; places = []; inputs = map.empty; sent = 0; late = [] }
 
 -- only the links have changed
 abbrev pub OnLinks : (LinksView → LinksView → Type 0) → EndpointView → EndpointView → Type 0
@@ -69,6 +73,8 @@ Removes v h result w = RemovesUnless (place_at v.places h).owes v h result w
 pub record Stands (v w : EndpointView) : Type 0 where
   pub session : w.session ≡ v.session
   pub inputs : w.inputs ≡ v.inputs
+  pub sent : w.sent ≡ v.sent
+  pub late : w.late ≡ v.late
   pub links : HasSameEnds v.links w.links
   pub places : (k : ℕ) → place_at w.places k ≡ place_at v.places k
 

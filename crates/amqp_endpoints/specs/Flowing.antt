@@ -4,6 +4,7 @@ use Rattle.std.specs.Prelude.{ℕ, ◌≡◌, ◌⊎◌, Bool, true, false, Opti
 use Rattle.amqp_memory.specs.Refusal.{SomeRefused}
 use Rattle.amqp_types.specs.Detach.{DetachModel}
 use Rattle.amqp_types.specs.Error.{ErrorModel}
+use Rattle.amqp_types.specs.declared.definitions.Role.{Role}
 use Rattle.amqp_session.specs.Relay.{Relays}
 use Rattle.amqp_session.specs.declared.flow.LinkFlow.{LinkFlow}
 use Rattle.amqp_engine.specs.declared.engine.input.Input.TheVariants as input
@@ -25,12 +26,15 @@ use Rattle.amqp_links.specs.Ends.{end_at}
 use Rattle.amqp_links.specs.PreparingFlow.{PreparesFlow, FinishesFlow}
 use Rattle.amqp_links.specs.Receiving.{condition_of}
 use Rattle.amqp_links.specs.Session.{life_of}
+use Rattle.amqp_endpoints.specs.declared.event.LinkAnswer.{LinkAnswer}
+use Rattle.amqp_endpoints.specs.declared.event.LinkAnswer.TheVariants.{NotWanted}
 use Rattle.amqp_endpoints.specs.declared.event.LinkEvent.{LinkEvent}
 use Rattle.amqp_endpoints.specs.declared.event.LinkEvent.TheVariants as event
 use Rattle.amqp_endpoints.specs.declared.place.LinkPlace.{LinkPlace}
 use Rattle.amqp_endpoints.specs.Endpoint.{EndpointView, OnLinks}
 use Rattle.amqp_endpoints.specs.Places.{place_at}
 use Rattle.amqp_endpoints.specs.Telling.{OnPlace}
+use Rattle.amqp_endpoints.specs.Waiting.{AsksUnless, IsAsked, SendsNone, is_held_back}
 
 abbrev pub is_done : Asked → Bool
 is_done asked.Done = true
@@ -58,11 +62,15 @@ FinishesIf false q v w = w ≡ v
 abbrev pub AsksFlow : {R : Type 0} → Relays R → EndpointView → StreamView R → ℕ → PreparedFlow → Asked → StreamView R → EndpointView → Type 0
 AsksFlow g v s h q a s' w = AsksStream g s (input.Flow v.session (flow_of h q.said)) a s' × FinishesIf (is_done a) q v w
 
+-- the flow that was prepared, if one was; it waits where transfers of the link do
+abbrev pub SaysPrepared : {R : Type 0} → Option PreparedFlow → Relays R → EndpointView → StreamView R → ℕ → LinkAnswer → StreamView R → EndpointView → Type 0
+SaysPrepared None g v s h answer s' w = SendsNone v s answer s' w
+SaysPrepared (Some q) g v s h answer s' w = AsksUnless (is_held_back v s h) (λ a s' w. AsksFlow g v s h q a s' w) v s h answer s' w
+
 -- The flow is what the link says for the wish, if it says one.
-abbrev pub SaysFlow : {R : Type 0} → Relays R → EndpointView → StreamView R → ℕ → FlowWish → Option Asked → StreamView R → EndpointView → Type 0
-SaysFlow g v s h wished None s' w = PreparesFlow wished (end_at v.links.ends h) h None × (s' ≡ s) × (w ≡ v)
-SaysFlow g v s h wished (Some a) s' w =
-    (q : PreparedFlow) × PreparesFlow wished (end_at v.links.ends h) h (Some q) × AsksFlow g v s h q a s' w
+abbrev pub SaysFlow : {R : Type 0} → Relays R → EndpointView → StreamView R → ℕ → FlowWish → LinkAnswer → StreamView R → EndpointView → Type 0
+SaysFlow g v s h wished answer s' w =
+    (prepared : Option PreparedFlow) × PreparesFlow wished (end_at v.links.ends h) h prepared × SaysPrepared prepared g v s h answer s' w
 
 -- ---- a Detach
 
@@ -99,12 +107,14 @@ abbrev pub AsksDetach : {R : Type 0} → Relays R → EndpointView → StreamVie
 AsksDetach g v s h closed error waits a s' w =
     AsksStream g s (input.Detach v.session (detach_of h closed error) waits) a s' × DetachesIf (is_done a) h v w
 
-abbrev pub DetachesFor : {R : Type 0} → Option Bool → Relays R → EndpointView → StreamView R → ℕ → Bool → Option ErrorModel → Option Asked → StreamView R
+abbrev pub DetachesFor : {R : Type 0} → Option Bool → Relays R → EndpointView → StreamView R → ℕ → Bool → Option ErrorModel → LinkAnswer → StreamView R
     → EndpointView → Type 0
-DetachesFor None g v s h closed error answer s' w = (answer ≡ None) × (s' ≡ s) × (w ≡ v)
-DetachesFor (Some waits) g v s h closed error answer s' w = (a : Asked) × (answer ≡ Some a) × AsksDetach g v s h closed error waits a s' w
+DetachesFor None g v s h closed error answer s' w = SendsNone v s answer s' w
+DetachesFor (Some waits) g v s h closed error answer s' w =
+    AsksUnless (is_held_back v s h) (λ a s' w. AsksDetach g v s h closed error waits a s' w) v s h answer s' w
 
-abbrev pub Detaches : {R : Type 0} → Relays R → EndpointView → StreamView R → ℕ → Bool → Option ErrorModel → Option Asked → StreamView R → EndpointView → Type 0
+-- It waits where transfers of the link do.
+abbrev pub Detaches : {R : Type 0} → Relays R → EndpointView → StreamView R → ℕ → Bool → Option ErrorModel → LinkAnswer → StreamView R → EndpointView → Type 0
 Detaches g v s h closed error answer s' w = DetachesFor (awaits v h) g v s h closed error answer s' w
 
 -- ---- what an event asks for
@@ -118,20 +128,32 @@ abbrev pub AsksEnd : {R : Type 0} → Relays R → EndpointView → StreamView R
 AsksEnd g v s h f waits a s' w =
     AsksDetach g v s h true (Some (fault_error f)) waits a s' w ⊎ ((a ≡ asked.NoMemory) × (s' ≡ s) × (w ≡ v) × SomeRefused)
 
-abbrev pub EndsIfOwed : {R : Type 0} → Option Bool → Relays R → EndpointView → StreamView R → ℕ → LinkFault → Option Asked → StreamView R → EndpointView → Type 0
-EndsIfOwed None g v s h f answer s' w = (answer ≡ None) × (s' ≡ s) × (w ≡ v)
-EndsIfOwed (Some waits) g v s h f answer s' w = (a : Asked) × (answer ≡ Some a) × AsksEnd g v s h f waits a s' w
+abbrev pub EndsIfOwed : {R : Type 0} → Option Bool → Relays R → EndpointView → StreamView R → ℕ → LinkFault → LinkAnswer → StreamView R → EndpointView → Type 0
+EndsIfOwed None g v s h f answer s' w = SendsNone v s answer s' w
+EndsIfOwed (Some waits) g v s h f answer s' w = IsAsked (λ a s' w. AsksEnd g v s h f waits a s' w) answer s' w
 
 -- The link ends for good, where this side has not detached it.
-abbrev pub EndsFor : {R : Type 0} → Relays R → EndpointView → StreamView R → ℕ → LinkFault → Option Asked → StreamView R → EndpointView → Type 0
+abbrev pub EndsFor : {R : Type 0} → Relays R → EndpointView → StreamView R → ℕ → LinkFault → LinkAnswer → StreamView R → EndpointView → Type 0
 EndsFor g v s h f answer s' w = EndsIfOwed (awaits v h) g v s h f answer s' w
 
+-- What a link owes the peer: a Detach, or a flow in answer.
+abbrev pub Pays : {R : Type 0} → Bool → Relays R → EndpointView → StreamView R → ℕ → ℕ → LinkAnswer → StreamView R → EndpointView → Type 0
+Pays true g v s h available answer s' w = Detaches g v s h (place_at v.places h).closes None answer s' w
+Pays false g v s h available answer s' w = SaysFlow g v s h (wish.Answer available) answer s' w
+
+-- The session lets go what this side's relay has settled; what the peer has settled is gone.
+abbrev pub Releases : {R : Type 0} → Bool → Relays R → EndpointView → StreamView R → Role → ℕ → ℕ → LinkAnswer → StreamView R → Type 0
+Releases true g v s role first last answer s' = (answer ≡ NotWanted) × (s' ≡ s)
+Releases false g v s role first last answer s' = IsAsked (λ a s' w. AsksStream g s (input.Settle v.session role first (Some last)) a s') answer s' v
+
 -- A link that is attached, or has told a part, renews its credit; a flow is answered where the peer asks for it; a fault ends the link; and a Detach of the
--- peer's is answered, where this side has sent none. Any other event asks for nothing.
-abbrev pub Responds : {R : Type 0} → Relays R → EndpointView → StreamView R → LinkEvent → ℕ → Option Asked → StreamView R → EndpointView → Type 0
+-- peer's is answered, where this side has sent none; what is due is paid; and what is settled is let go. Any other event asks for nothing.
+abbrev pub Responds : {R : Type 0} → Relays R → EndpointView → StreamView R → LinkEvent → ℕ → LinkAnswer → StreamView R → EndpointView → Type 0
 Responds g v s (event.Attached h life) available answer s' w = SaysFlow g v s h wish.Renew answer s' w
 Responds g v s (event.Part h told) available answer s' w = SaysFlow g v s h wish.Renew answer s' w
 Responds g v s (event.Flow h used) available answer s' w = SaysFlow g v s h (wish.Answer available) answer s' w
 Responds g v s (event.Fault h f) available answer s' w = EndsFor g v s h f answer s' w
 Responds g v s (event.Ended h end closed) available answer s' w = Detaches g v s h closed None answer s' w
-Responds g v s e available answer s' w = (answer ≡ None) × (s' ≡ s) × (w ≡ v)
+Responds g v s (event.Due h) available answer s' w = Pays (place_at v.places h).owes g v s h available answer s' w
+Responds g v s (event.Settled role first last by_peer) available answer s' w = Releases by_peer g v s role first last answer s' × (w ≡ v)
+Responds g v s e available answer s' w = SendsNone v s answer s' w

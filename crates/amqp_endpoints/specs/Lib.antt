@@ -2,6 +2,7 @@ pub mod Places
 pub mod Reading
 pub mod Endpoint
 pub mod Telling
+pub mod Waiting
 pub mod Flowing
 pub mod Sending
 pub mod Settling

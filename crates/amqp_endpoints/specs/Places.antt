@@ -5,7 +5,7 @@ use Rattle.amqp_endpoints.specs.declared.place.LinkPlace.{LinkPlace}
 
 -- nothing was begun, has come, or is owed
 abbrev pub no_place : LinkPlace
-no_place = record { begun = 0; owes = false; tag_size = 0; tag = replicate 32 0 }
+no_place = record { begun = 0; owes = false; closes = false; is_listed = false; tag_size = 0; tag = replicate 32 0; sent = 0 }
 
 abbrev pub place_at : List LinkPlace → ℕ → LinkPlace
 place_at places h = slice_index_or places h no_place

@@ -1,6 +1,6 @@
 -- Part: other calls.
 -- What a record says of a link (AMQP 1.0 part 2, sections 2.7.3 to 2.7.6).
-use Rattle.std.specs.Prelude.{ℕ, ◌+◌, ◌*◌, ◌%◌, ◌^◌, ◌&&◌, ◌||◌, Bool, nat_eq, nat_le, if◌then◌else◌, Option, Some, None}
+use Rattle.std.specs.Prelude.{ℕ, ◌+◌, ◌*◌, ◌%◌, ◌^◌, ◌&&◌, ◌||◌, Bool, true, nat_eq, nat_le, if◌then◌else◌, Option, Some, None}
 use Rattle.std.specs.Cmp.Lexicographic.{pointwise}
 use Rattle.amqp_credit.specs.declared.part.PartHead.{PartHead}
 use Rattle.amqp_credit.specs.declared.part.PartTag.{PartTag}
@@ -25,6 +25,10 @@ peer_attach r = record {
   initial_delivery_count = r.count;
   max_message_size = Some (r.first + r.last * 2 ^ 32);
 }
+
+-- one that came before this side's refuses nothing
+abbrev pub first_attach : Record → PeerAttach
+first_attach r = record (peer_attach r) { is_accepted = true }
 
 abbrev pub if_set : Record → ℕ → ℕ → Option ℕ
 if_set r flag n = if has r.flags flag then Some n else None
@@ -64,4 +68,4 @@ abbrev pub own_role : Record → Role
 own_role r = if has r.flags 16 then Sender else Receiver
 
 abbrev pub settled_range : Record → LinkEvent
-settled_range r = if is_settled r then Settled (own_role r) r.first r.last else Nothing
+settled_range r = if is_settled r then Settled (own_role r) r.first r.last (has r.flags 2) else Nothing

@@ -1,6 +1,6 @@
 -- Part: other calls; inner.
 -- A transfer that is sent on a link of a session: the link allows it, and the stream takes it (AMQP 1.0 part 2, sections 2.6.7 and 2.6.12 to 2.6.14).
-use Rattle.std.specs.Prelude.{ℕ, ◌≡◌, ◌≢◌, ◌+◌, ◌*◌, ◌/◌, Bool, true, false, List, [], ◌∷◌, Option, Some, None, Result, Ok, Err, if◌then◌else◌, slice_index_or}
+use Rattle.std.specs.Prelude.{ℕ, ◌≡◌, ◌≢◌, ◌+◌, ◌-◌, ◌*◌, ◌/◌, ◌^◌, min, Bool, true, false, List, [], ◌∷◌, Option, Some, None, Result, Ok, Err, if◌then◌else◌, slice_index_or}
 use Rattle.amqp_credit.specs.declared.part.PartEnd.{PartEnd}
 use Rattle.amqp_credit.specs.declared.part.PartEnd.TheVariants.{More, Last, Aborted}
 use Rattle.amqp_session.specs.Relay.{Relays}
@@ -26,8 +26,8 @@ use Rattle.amqp_endpoints.specs.declared.endpoint.sending.SendFailure.{SendFailu
 use Rattle.amqp_endpoints.specs.declared.endpoint.sending.SendFailure.TheVariants.{Link, Refused, Stopped}
 use Rattle.amqp_endpoints.specs.declared.endpoint.sending.SentDelivery.{SentDelivery}
 use Rattle.amqp_endpoints.specs.Endpoint.{EndpointView, OnLinks}
-use Rattle.amqp_endpoints.specs.Places.{place_at}
-use Rattle.amqp_endpoints.specs.Telling.{OnPlace}
+use Rattle.amqp_endpoints.specs.declared.place.LinkPlace.{LinkPlace}
+use Rattle.amqp_endpoints.specs.Places.{PutsPlace, place_at}
 
 -- ---- which part it is
 
@@ -94,16 +94,23 @@ PostsHead g v s head bytes is_first (Err (Link e)) s' = ⊥
 
 -- ---- the whole
 
--- the number of a delivery that begins is kept
-abbrev pub BeginsIf : Bool → EndpointView → ℕ → ℕ → (LinksView → LinksView → Type 0) → EndpointView → Type 0
-BeginsIf true v h n Step w = OnPlace Step h (record (place_at v.places h) { begun = n }) v w
-BeginsIf false v h n Step w = OnLinks Step v w
+-- transfers of the session are counted
+abbrev pub one_more : ℕ → ℕ
+one_more n = min (n + 1) (2 ^ 64 - 1)
+
+-- the number of a delivery that begins is kept, and that this is the last transfer of the link
+abbrev pub sent_place : EndpointView → ℕ → ℕ → Bool → LinkPlace
+sent_place v h n is_first = record (place_at v.places h) { begun = if is_first then n else (place_at v.places h).begun; sent = one_more v.sent }
+
+abbrev pub NotesSent : Bool → EndpointView → ℕ → ℕ → (LinksView → LinksView → Type 0) → EndpointView → Type 0
+NotesSent is_first v h n Step w = Step v.links w.links × PutsPlace v.places h (sent_place v h n is_first) w.places
+    × (w ≡ record v { links = w.links; places = w.places; sent = one_more v.sent })
 
 -- the link sends the part, and the stream accepts it; or one of them does not, and the link stands as before
 abbrev pub SendsPart : {R : Type 0} → Relays R → EndpointView → StreamView R → TransferHead → List ℕ → SentPart → Bool → Result SentDelivery SendFailure
     → StreamView R → EndpointView → Type 0
 SendsPart g v s head bytes p is_first (Ok told) s' w = Accepts g v s head bytes is_first s' × (told.number ≡ p.number)
-    × BeginsIf is_first v head.link p.number (λ l m. SendsAt (end_at l.ends head.link) l head.link p (Ok told.settled) m) w
+    × NotesSent is_first v head.link p.number (λ l m. SendsAt (end_at l.ends head.link) l head.link p (Ok told.settled) m) w
 SendsPart g v s head bytes p is_first (Err (Link e)) s' w =
     SendsAt (end_at v.links.ends head.link) v.links head.link p (Err e) v.links × (s' ≡ s) × (w ≡ v)
 SendsPart g v s head bytes p is_first (Err (Refused why)) s' w = Refuses g v s head bytes is_first why s' × (w ≡ v)
@@ -119,7 +126,7 @@ SendsDelivery g v s head bytes given result s' w =
 -- a part that was prepared is finished
 abbrev pub Finishes : EndpointView → ℕ → PreparedPart → SentDelivery → EndpointView → Type 0
 Finishes v h q told w = (told.number ≡ q.part.number)
-    × BeginsIf q.is_first v h q.part.number (λ l m. FinishesAt (end_at l.ends q.handle) q l told.settled m) w
+    × NotesSent q.is_first v h q.part.number (λ l m. FinishesAt (end_at l.ends q.handle) q l told.settled m) w
 
 -- the stream takes a part that was prepared, and it is finished; or it does not, and it is cancelled
 abbrev pub AsksPart : {R : Type 0} → Relays R → EndpointView → StreamView R → TransferHead → List ℕ → Bool → PreparedPart → Result SentDelivery SendFailure

@@ -12,6 +12,7 @@ use Rattle.amqp_driver.specs.Record.{none}
 use Rattle.amqp_links.specs.declared.life.LinkEnd.{LinkEnd}
 use Rattle.amqp_links.specs.declared.life.LinkEnd.TheVariants as by
 use Rattle.amqp_links.specs.declared.receiving.TransferError.TheVariants as error
+use Rattle.amqp_links.specs.declared.session.attaching.PeerAttach.{PeerAttach}
 use Rattle.amqp_links.specs.declared.session.taking.ReceivedPart.{ReceivedPart}
 use Rattle.amqp_links.specs.declared.session.taking.TakePartError.{TakePartError}
 use Rattle.amqp_links.specs.declared.session.taking.TakePartError.TheVariants as take
@@ -33,9 +34,9 @@ use Rattle.amqp_endpoints.specs.Reading.{credit_flow, part_head, peer_attach, se
 abbrev pub OnPlace : (LinksView → LinksView → Type 0) → ℕ → LinkPlace → EndpointView → EndpointView → Type 0
 OnPlace Step h p v w = Step v.links w.links × PutsPlace v.places h p w.places × (w ≡ record v { links = w.links; places = w.places })
 
--- this side's Detach is to be sent for the link of this handle
-abbrev pub owing : EndpointView → ℕ → LinkPlace
-owing v h = record (place_at v.places h) { owes = true }
+-- this side's Detach is to be sent for the link of this handle, and closes it for good, or not
+abbrev pub owing : EndpointView → ℕ → Bool → LinkPlace
+owing v h closes = record (place_at v.places h) { owes = true; closes = closes }
 
 -- the link that a frame names by the peer's handle, if it names one
 abbrev pub named_by : EndpointView → Record → Option ℕ
@@ -47,16 +48,16 @@ link_by v r = if nat_eq r.output none then named_by v r else Some r.output
 
 -- ---- an Attach
 
--- its handle means the link from then on
+-- It says this, and its handle means the link from then on.
 abbrev pub with_input : EndpointView → Record → ℕ → EndpointView
 with_input v r h = record v { inputs = map.insert v.inputs r.input h }
 
-abbrev pub TellsAttach : EndpointView → Record → ℕ → Result LinkEvent RecordError → EndpointView → Type 0
-TellsAttach v r h (Ok (Attached k life)) w = (k ≡ h)
-    × OnLinks (λ l m. AttachesAt (end_at l.ends h) l h (peer_attach r) (Some life) m) (with_input v r h) w
-TellsAttach v r h (Ok Nothing) w = (end_at v.links.ends h ≡ None) × (w ≡ v)
-TellsAttach v r h (Err no.OutOfMemory) w = (w ≡ v) × SomeRefused
-TellsAttach v r h result w = ⊥
+abbrev pub TellsAttach : EndpointView → Record → ℕ → PeerAttach → Result LinkEvent RecordError → EndpointView → Type 0
+TellsAttach v r h a (Ok (Attached k life)) w = (k ≡ h)
+    × OnLinks (λ l m. AttachesAt (end_at l.ends h) l h a (Some life) m) (with_input v r h) w
+TellsAttach v r h a (Ok Nothing) w = (end_at v.links.ends h ≡ None) × (w ≡ v)
+TellsAttach v r h a (Err no.OutOfMemory) w = (w ≡ v) × SomeRefused
+TellsAttach v r h a result w = ⊥
 
 -- ---- a flow
 
@@ -64,7 +65,7 @@ abbrev pub TellsFlow : EndpointView → Record → ℕ → LinkEvent → Endpoin
 TellsFlow v r h (Flow k used) w = (k ≡ h)
     × OnLinks (λ l m. FlowsAt (end_at l.ends h) l h (credit_flow r) (Some (Ok used)) m) v w
 TellsFlow v r h (Fault k fault) w = (k ≡ h)
-    × OnPlace (λ l m. FlowsAt (end_at l.ends h) l h (credit_flow r) (Some (Err fault)) m) h (owing v h) v w
+    × OnPlace (λ l m. FlowsAt (end_at l.ends h) l h (credit_flow r) (Some (Err fault)) m) h (owing v h true) v w
 TellsFlow v r h Nothing w = OnLinks (λ l m. FlowsAt (end_at l.ends h) l h (credit_flow r) None m) v w
 TellsFlow v r h e w = ⊥
 
@@ -94,7 +95,7 @@ abbrev pub TellsPart : EndpointView → Record → ℕ → ℕ → Result LinkEv
 TellsPart v r h given (Ok (Part k told)) w = (k ≡ h) × KeepsTag (keeps_tag told.part) v r h (TakesBy v r h given (Ok told)) w
 TellsPart v r h given (Ok (PassedOver k)) w = (k ≡ h) × OnLinks (TakesBy v r h given (Err (take.Link error.NotAttached))) v w
 TellsPart v r h given (Ok (Fault k fault)) w = (k ≡ h)
-    × OnPlace (TakesBy v r h given (Err (take.Link (error.Fault fault)))) h (owing v h) v w
+    × OnPlace (TakesBy v r h given (Err (take.Link (error.Fault fault)))) h (owing v h true) v w
 TellsPart v r h given (Ok Nothing) w = OnLinks (TakesBy v r h given (Err take.NoReceiver)) v w
 TellsPart v r h given (Err no.NotNext) w = OnLinks (TakesBy v r h given (Err take.NotNext)) v w
 TellsPart v r h given (Err no.OutOfMemory) w = OnLinks (TakesBy v r h given (Err take.OutOfMemory)) v w
@@ -113,13 +114,13 @@ is_unanswered by.Stray = false
 abbrev pub without_input : EndpointView → Record → EndpointView
 without_input v r = record v { inputs = map.remove v.inputs r.input }
 
-abbrev pub OwesIf : Bool → EndpointView → ℕ → (LinksView → LinksView → Type 0) → EndpointView → Type 0
-OwesIf true v h Step w = OnPlace Step h (owing v h) v w
-OwesIf false v h Step w = OnLinks Step v w
+abbrev pub OwesIf : Bool → EndpointView → ℕ → Bool → (LinksView → LinksView → Type 0) → EndpointView → Type 0
+OwesIf true v h closes Step w = OnPlace Step h (owing v h closes) v w
+OwesIf false v h closes Step w = OnLinks Step v w
 
 abbrev pub TellsDetach : EndpointView → Record → ℕ → LinkEvent → EndpointView → Type 0
 TellsDetach v r h (Ended k end closed) w = (k ≡ h) × (closed ≡ has r.flags 512)
-    × OwesIf (is_unanswered end) (without_input v r) h (λ l m. EndsAt (end_at l.ends h) l h (Some end) m) w
+    × OwesIf (is_unanswered end) (without_input v r) h closed (λ l m. EndsAt (end_at l.ends h) l h (Some end) m) w
 TellsDetach v r h Nothing w = OnLinks (λ l m. EndsAt (end_at l.ends h) l h None m) (without_input v r) w
 TellsDetach v r h e w = ⊥
 
@@ -143,7 +144,7 @@ abbrev pub TellsLink : EndpointView → Record → ℕ → ℕ → Result LinkEv
 TellsLink v r h given result w =
     Choose (nat_eq r.kind 6) (TellsPart v r h given result w)
     (Choose (nat_eq r.kind 5) (TellsOk (TellsFlow v r h) result w)
-    (Choose (nat_eq r.kind 3) (TellsAttach v r h result w)
+    (Choose (nat_eq r.kind 3) (TellsAttach v r h (peer_attach r) result w)
     (Choose (nat_eq r.kind 8) (TellsOk (TellsDetach v r h) result w)
     (SaysNothing v result w))))
 

@@ -2,15 +2,17 @@
 
 ghost use Rattle.std.specs.Prelude.{◌≡◌, OnOk, OnErr};
 ghost use Rattle.amqp_memory.specs.Refusal.{SomeRefused};
-ghost use Rattle.amqp_endpoints.specs.Endpoint.{LeavesLink, LeavesReceived, LeavesSent, HasRoom, Removes, SettlesNext, Stands, new_endpoint};
+ghost use Rattle.amqp_endpoints.specs.Endpoint.{LeavesReceived, LeavesSent, HasRoom, Removes, SettlesNext, Stands, new_endpoint};
 
 mod attaching;
 mod flowing;
 mod sending;
 mod settling;
 mod telling;
+mod waiting;
 
 use crate::inputs::Inputs;
+use crate::late::LateLink;
 use crate::place::Places;
 use amqp_connection::SessionNo;
 use amqp_links::{Entry, RemoveError, SessionLinks};
@@ -18,14 +20,16 @@ use amqp_session::keys::KeyHash;
 use amqp_types::Role;
 pub use attaching::AttachError;
 pub use sending::{SendFailure, SentDelivery};
+pub use settling::NoMemory;
 use std::alloc::{AllocError, Global};
+use std::collections::VecDeque;
 use std::marker::Model;
 
 /// The links of one session over a [`Stream`](amqp_driver::Stream) (AMQP 1.0 part 2, section 2.6): the end of each, by this side's handle, and what is
 /// unsettled on them. Each call that sends goes by the stream, which is handed to it; what comes for the session's links is told to
 /// [`SessionEndpoint::on_record`], record by record, in order. It finds a link at once, however many there are.
 ///
-/// Its memory is that of the highest handle that was attached, and of what is unsettled.
+/// Its memory is that of the highest handle that was attached, of what is unsettled, and of the links of which a call waits.
 #[derive(Drop)]
 pub struct SessionEndpoint {
     alloc: Global,
@@ -33,6 +37,8 @@ pub struct SessionEndpoint {
     links: SessionLinks,
     places: Places,
     inputs: Inputs,
+    sent: u64,
+    late: VecDeque<LateLink>,
 }
 
 impl Model for SessionEndpoint {
@@ -44,7 +50,7 @@ impl Model for SessionEndpoint {
 
     ghost coded = { Prim.hlevel (codes, input_table_code) };
 
-    ghost view = { λ e. record { session = e.session; links = e.links; places = e.places; inputs = e.inputs } };
+    ghost view = { λ e. record { session = e.session; links = e.links; places = e.places; inputs = e.inputs; sent = e.sent; late = e.late.items } };
 }
 
 impl SessionEndpoint {
@@ -59,6 +65,8 @@ impl SessionEndpoint {
             links: SessionLinks::new(alloc),
             places: Places::new(alloc),
             inputs: Inputs::new(alloc, hash),
+            sent: 0,
+            late: VecDeque::new(alloc),
         }
     }
 
@@ -85,14 +93,6 @@ impl SessionEndpoint {
             Role::Sender => self.links.settle_sent(first, last),
             Role::Receiver => self.links.settle_received(first, last),
         }
-    }
-
-    /// Takes out the oldest delivery that is left unsettled on the link that has this handle, once the peer has detached it. Called until it answers `None`, it
-    /// tells each one once, in the order of their numbers (AMQP 1.0 part 2, section 2.6.13).
-    pub fn left_next(&mut self, handle: u32) -> Option<Entry>
-        ensures { LeavesLink self.old handle result self.new }
-    {
-        self.links.left_next(handle)
     }
 
     /// The same of all that this side sent, on any link: for a session that is over.

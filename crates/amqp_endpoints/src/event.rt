@@ -1,5 +1,6 @@
 //! What a record is to the links of a session.
 
+use amqp_driver::Asked;
 use amqp_links::{Life, LinkEnd, LinkFault, ReceivedPart};
 use amqp_types::Role;
 
@@ -51,6 +52,9 @@ pub enum LinkEvent {
         first: u32,
         /// The last number.
         last: u32,
+        /// Whether the peer has settled them. Else this side's relay has answered by a settled disposition, and the session lets them go by
+        /// [`SessionEndpoint::respond`](crate::SessionEndpoint::respond).
+        by_peer: bool,
     },
     /// The peer's Detach has come for the link of this handle.
     Ended {
@@ -61,6 +65,25 @@ pub enum LinkEvent {
         /// Whether it closes the link for good.
         closed: bool,
     },
+    /// No transfer of the link of this handle waits for the peer's window any more, and a call of it was answered [`LinkAnswer::HeldBack`] before:
+    /// [`SessionEndpoint::respond`](crate::SessionEndpoint::respond) sends what it owes the peer, and what else was asked for may be asked for again.
+    Due {
+        /// This side's handle of the link.
+        handle: u32,
+    },
+}
+
+/// What became of a call that is to send a flow or a Detach for a link.
+#[derive(Debug, Drop)]
+#[must_use]
+pub enum LinkAnswer {
+    /// None is wanted, and nothing happens.
+    NotWanted,
+    /// It would overtake transfers of the link which the session holds back for the peer's window (AMQP 1.0 part 2, section 2.5.6): nothing is sent, and the
+    /// link stands as before. [`SessionEndpoint::due_next`](crate::SessionEndpoint::due_next) tells when the call may be made again.
+    HeldBack,
+    /// It was requested, and this became of it.
+    Asked(Asked),
 }
 
 /// Why a record is not told. Nothing has changed then, and the same record may be given again.

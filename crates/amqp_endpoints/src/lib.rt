@@ -10,6 +10,7 @@
 //!     let event = endpoint.on_record(record, 0)?;                      // attached, a flow, a part, settled, ended
 //!     endpoint.respond(&mut stream, &event, 0);                        // what the link owes: a flow, or a Detach
 //! }
+//! while let LinkEvent::Due { handle } = endpoint.due_next(&stream) { .. } // what waited for the peer's window
 //! let sent = endpoint.send(&mut stream, &head, bytes, 70)?;            // refused where there is no credit
 //! ```
 #![tactic(auto)]
@@ -18,10 +19,11 @@ mod endpoint;
 mod event;
 mod flows;
 mod inputs;
+mod late;
 pub mod laws;
 mod place;
 mod reading;
 
 pub use amqp_links::{FlowWish, Renewal};
-pub use endpoint::{AttachError, SendFailure, SentDelivery, SessionEndpoint};
-pub use event::{LinkEvent, RecordError};
+pub use endpoint::{AttachError, NoMemory, SendFailure, SentDelivery, SessionEndpoint};
+pub use event::{LinkAnswer, LinkEvent, RecordError};

@@ -15,10 +15,16 @@ pub(crate) struct LinkPlace {
     pub(crate) begun: u32,
     /// Whether a Detach of this side's is still to be sent.
     pub(crate) owes: bool,
+    /// Whether that one closes the link for good.
+    pub(crate) closes: bool,
+    /// Whether the link is listed among those of which a call waits for the peer's window.
+    pub(crate) is_listed: bool,
     /// How many bytes the tag has of the delivery that came last.
     pub(crate) tag_size: u16,
     /// That tag, and zeros after it.
     pub(crate) tag: [u8; 32],
+    /// How many transfers had been sent in the session with the last one of this link; 0 where it has sent none.
+    pub(crate) sent: u64,
 }
 
 impl LinkPlace {
@@ -29,8 +35,11 @@ impl LinkPlace {
         LinkPlace {
             begun: 0,
             owes: false,
+            closes: false,
+            is_listed: false,
             tag_size: 0,
             tag: [0; 32],
+            sent: 0,
         }
     }
 }

@@ -1,7 +1,7 @@
 //! What a record says of a link.
 
 ghost use Rattle.std.specs.Prelude.{◌≡◌, ◌<◌};
-ghost use Rattle.amqp_endpoints.specs.Reading.{credit_flow, has_terminus, if_set, is_settled, part_head, part_tag, peer_attach, settled_range};
+ghost use Rattle.amqp_endpoints.specs.Reading.{credit_flow, first_attach, has_terminus, if_set, is_settled, part_head, part_tag, peer_attach, settled_range};
 
 use crate::event::LinkEvent;
 use crate::place::LinkPlace;
@@ -21,7 +21,17 @@ fn has_terminus(told: &Record) -> bool
     }
 }
 
-/// What an Attach says.
+/// What an Attach of the peer's says that came before this side's: it refuses nothing, whatever terminus it lacks.
+pub(crate) fn first_attach(told: &Record) -> PeerAttach
+    ensures { result ≡ first_attach told.now }
+{
+    PeerAttach {
+        is_accepted: true,
+        ..peer_attach(told)
+    }
+}
+
+/// What an Attach of the peer's says that answers this side's.
 pub(crate) fn peer_attach(told: &Record) -> PeerAttach
     ensures { result ≡ peer_attach told.now }
 {
@@ -110,5 +120,6 @@ pub(crate) fn settled_range(told: &Record) -> LinkEvent
         role,
         first: told.first,
         last: told.last,
+        by_peer: is_set(told.flags, flag::SETTLED),
     }
 }

@@ -117,8 +117,8 @@ impl Broker {
             drop(error);
             return Ok(());
         };
-        let asked = endpoint.detach(&mut self.stream, handle, true, Some(error));
-        self.note(asked);
+        let answer = endpoint.detach(&mut self.stream, handle, true, Some(error));
+        self.note_said(answer);
         Ok(())
     }
 }

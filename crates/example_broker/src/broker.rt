@@ -5,7 +5,7 @@ use crate::giving::Consumer;
 use crate::queue::{MOST_UNSETTLED, Queue};
 use crate::senders::Sender;
 use amqp_driver::{Asked, EndAnswer, PlainRelay, Record, Status, Stream, kind};
-use amqp_endpoints::{FlowWish, LinkEvent, SessionEndpoint};
+use amqp_endpoints::{FlowWish, LinkAnswer, LinkEvent, SessionEndpoint};
 use amqp_sasl::Opening;
 use amqp_transport::{Came, Received, Round, exchange, write_waiting};
 use bytes::Bytes;
@@ -16,6 +16,9 @@ use fe2o3_amqp::{
 use std::alloc::Global;
 use std::collections::BTreeMap;
 use std::io::{self, ErrorKind, Read, Write};
+
+/// How many links whose transfers have gone out are told what they owe after one record, at most.
+const DUE_AT_ONCE: usize = 64;
 
 /// The largest frame that this side takes.
 const MAX_FRAME_SIZE: u32 = 65536;
@@ -107,6 +110,7 @@ impl Broker {
         let event = self.look_at(record)?;
         self.deliver()?;
         self.respond(record.session, event);
+        self.pay(record.session);
         self.renew();
         if self.stream.driver().unfit() > 0 {
             self.fault = Some(ErrorCondition::FrameSizeTooSmall);
@@ -172,7 +176,7 @@ impl Broker {
     /// What the link of an event owes for it: credit is granted elsewhere, and what a receiver asked for is answered behind its messages.
     pub fn respond(&mut self, session: u32, event: LinkEvent) {
         let is_owed = match event {
-            LinkEvent::Fault { .. } | LinkEvent::Ended { .. } => true,
+            LinkEvent::Fault { .. } | LinkEvent::Ended { .. } | LinkEvent::Settled { .. } => true,
             LinkEvent::Flow { handle, used: _ } => self.place_of(session, handle).is_some(),
             _ => false,
         };
@@ -182,8 +186,23 @@ impl Broker {
         let Some(endpoint) = self.sessions.get_mut(&session) else {
             return;
         };
-        let asked = endpoint.respond(&mut self.stream, &event, 0);
-        self.note(asked);
+        let answer = endpoint.respond(&mut self.stream, &event, 0);
+        self.note_said(answer);
+    }
+
+    /// Links whose transfers waited for the client's window say what they owe, once these have gone out. A handle is free whose link is over.
+    fn pay(&mut self, session: u32) {
+        for _ in 0..DUE_AT_ONCE {
+            let Some(endpoint) = self.sessions.get_mut(&session) else {
+                return;
+            };
+            let LinkEvent::Due { handle } = endpoint.due_next(&self.stream) else {
+                return;
+            };
+            let answer = endpoint.respond(&mut self.stream, &LinkEvent::Due { handle }, 0);
+            drop(endpoint.remove(handle));
+            self.note_said(answer);
+        }
     }
 
     /// A link says what it is to say, if anything.
@@ -191,8 +210,8 @@ impl Broker {
         let Some(endpoint) = self.sessions.get_mut(&session) else {
             return;
         };
-        let asked = endpoint.say(&mut self.stream, handle, wish);
-        self.note(asked);
+        let answer = endpoint.say(&mut self.stream, handle, wish);
+        self.note_said(answer);
     }
 
     /// Grants credit to the links on which the client sends, where it is due, and while there is room for messages.
@@ -206,6 +225,14 @@ impl Broker {
             };
             let (session, handle) = (sender.session, sender.handle);
             self.say(session, handle, FlowWish::Renew);
+        }
+    }
+
+    /// The same of a flow or a Detach. One that waits is not done yet.
+    pub fn note_said(&mut self, answer: LinkAnswer) {
+        match answer {
+            LinkAnswer::Asked(asked) => self.note(Some(asked)),
+            LinkAnswer::HeldBack | LinkAnswer::NotWanted => {}
         }
     }
 

@@ -1,12 +1,10 @@
 //! What comes for the links of a session, and what the broker does for it.
 
 use crate::broker::Broker;
-use amqp_driver::{Record, flag, kind};
+use amqp_driver::{PlainRelay, Record, Stream};
 use amqp_endpoints::{LinkEvent, RecordError, SessionEndpoint};
 use amqp_links::{Entry, Part, ReceivedPart};
-use fe2o3_amqp::{
-    ErrorCondition, FrameBody, Input, Raw, ReceiverSettleMode, Role, SessionNo, is_terminal,
-};
+use fe2o3_amqp::{ErrorCondition, FrameBody, ReceiverSettleMode, Role};
 use std::io::{self, ErrorKind};
 
 /// The outcomes that records know, and that this broker gives (AMQP 1.0 part 3, section 3.4).
@@ -15,8 +13,6 @@ const ACCEPTED: u8 = 1;
 const RELEASED: u8 = 3;
 
 const MODIFIED: u8 = 4;
-/// The outcome of a record for a state that it knows by no number.
-const OTHER: u8 = 6;
 
 /// Which deliveries are unsettled no more, of those that this side has this role in: a range of them, those of a link, or all.
 #[derive(Clone, Copy)]
@@ -34,12 +30,19 @@ impl Closed {
     }
 
     /// The oldest that is left.
-    fn next_of(self, endpoint: &mut SessionEndpoint) -> Option<Entry> {
+    fn next_of(
+        self,
+        endpoint: &mut SessionEndpoint,
+        stream: &mut Stream<PlainRelay>,
+    ) -> io::Result<Option<Entry>> {
         match self {
-            Closed::Range(role, first, last) => endpoint.settled_next(role, first, last),
-            Closed::Link(_, handle) => endpoint.left_next(handle),
-            Closed::Session(Role::Sender) => endpoint.left_of_sent(),
-            Closed::Session(Role::Receiver) => endpoint.left_of_received(),
+            Closed::Range(role, first, last) => Ok(endpoint.settled_next(role, first, last)),
+            Closed::Link(_, handle) => match endpoint.left_next(stream, handle) {
+                Ok(left) => Ok(left),
+                Err(_) => Err(io::Error::from(ErrorKind::OutOfMemory)),
+            },
+            Closed::Session(Role::Sender) => Ok(endpoint.left_of_sent()),
+            Closed::Session(Role::Receiver) => Ok(endpoint.left_of_received()),
         }
     }
 }
@@ -67,9 +70,12 @@ impl Broker {
         let session = record.session;
         match event {
             LinkEvent::Part { handle, part } => self.take_part(record, handle, part),
-            LinkEvent::Settled { role, first, last } => {
-                self.take_settled(record, role, first, last)
-            }
+            LinkEvent::Settled {
+                role,
+                first,
+                last,
+                ..
+            } => { self.take_settled(record, role, first, last) }
             LinkEvent::Fault { handle, fault: _ } => {
                 self.drop_coming(session, handle);
                 Ok(())
@@ -78,7 +84,6 @@ impl Broker {
                 self.respond(session, event);
                 self.leave_link(session, handle)
             }
-            LinkEvent::Nothing if record.kind == kind::DISPOSITION => self.take_named(record),
             _ => Ok(()),
         }
     }
@@ -166,7 +171,7 @@ impl Broker {
         self.close(session, closed, false)
     }
 
-    /// The client settles deliveries. Where it leaves it to this side, the relay has answered; and the session lets them go.
+    /// The client settles deliveries. It gives messages back, "released" or "modified", so that somebody else may have them; or it does not.
     fn take_settled(
         &mut self,
         record: &Record,
@@ -174,29 +179,8 @@ impl Broker {
         first: u32,
         last: u32,
     ) -> io::Result<()> {
-        let is_back = self.is_given_back(record)?;
-        if !flag::is_set(record.flags, flag::SETTLED) {
-            let input = Input::Settle(SessionNo(record.session), Role::Sender, first, Some(last));
-            let asked = self.stream.request(input);
-            self.note(Some(asked));
-        }
+        let is_back = record.outcome == RELEASED || record.outcome == MODIFIED;
         self.close(record.session, Closed::Range(role, first, last), is_back)
-    }
-
-    /// A state that has a name, and no number, is told as no outcome. Where it is one all the same, the relay has answered.
-    fn take_named(&mut self, record: &Record) -> io::Result<()> {
-        if record.outcome != OTHER || !flag::is_set(record.flags, flag::RECEIVER) {
-            return Ok(());
-        }
-        let Some(state) = self.named_state(record)? else {
-            return Ok(());
-        };
-        let is_over = is_terminal(&state);
-        drop(state);
-        if !is_over {
-            return Ok(());
-        }
-        self.take_settled(record, Role::Sender, record.first, record.last)
     }
 
     /// A link is over: what is left of it is given back, and its handle is free.
@@ -243,7 +227,7 @@ impl Broker {
             let Some(endpoint) = self.sessions.get_mut(&session) else {
                 return Ok(());
             };
-            let Some(entry) = closed.next_of(endpoint) else {
+            let Some(entry) = closed.next_of(endpoint, &mut self.stream)? else {
                 return Ok(());
             };
             match role {
@@ -268,43 +252,6 @@ impl Broker {
         if let Some(sender) = self.senders.get_mut(at) {
             sender.drop_coming(&mut self.queue);
         }
-    }
-
-    /// Whether the client gives messages back, "released" or "modified", so that somebody else may have them.
-    fn is_given_back(&self, record: &Record) -> io::Result<bool> {
-        if record.outcome != OTHER {
-            return Ok(record.outcome == RELEASED || record.outcome == MODIFIED);
-        }
-        let Some(state) = self.named_state(record)? else {
-            return Ok(false);
-        };
-        let is_back = is_back(&state);
-        drop(state);
-        Ok(is_back)
-    }
-
-    /// The state of a disposition.
-    fn named_state(&self, record: &Record) -> io::Result<Option<Raw>> {
-        match self.body_in(record)? {
-            Some(FrameBody::Disposition(disposition)) => Ok(disposition.state),
-            other => {
-                drop(other);
-                Ok(None)
-            }
-        }
-    }
-}
-
-/// Whether a state is "released" or "modified", by its name.
-fn is_back(state: &Raw) -> bool {
-    match state.view().descriptor() {
-        None => false,
-        Some(descriptor) => match descriptor.bytes() {
-            [0xa3, _, name @ ..] => {
-                name == b"amqp:released:list".as_slice() || name == b"amqp:modified:list".as_slice()
-            }
-            _ => false,
-        },
     }
 }
 

@@ -1,9 +1,9 @@
 //! Both ends of a link: credit, deliveries, settlement, and the end.
 
 use crate::same::{holds, same};
-use crate::side::{Side, exchange, is_all_done, pair};
+use crate::side::{Side, exchange, is_all_done, is_sent, pair};
 use amqp_driver::flag;
-use amqp_endpoints::{FlowWish, LinkEvent, Renewal, SendFailure};
+use amqp_endpoints::{FlowWish, LinkAnswer, LinkEvent, Renewal, SendFailure};
 use amqp_links::{Entry, Life, LinkEnd, PartEnd, SendError, SendPartError};
 use amqp_types::Role;
 use std::alloc::Global;
@@ -56,6 +56,27 @@ fn a_link_is_attached_and_has_credit(rt: HostRuntime) -> Result<(), Fail> {
 }
 
 #[test]
+fn a_link_is_attached_under_another_name(rt: HostRuntime) -> Result<(), Fail> {
+    let (mut client, mut server) = pair(rt.alloc())?;
+    let _ = client.attach(rt.alloc(), "q", Role::Sender, None, None)?;
+    exchange(rt.alloc(), &mut client, &mut server)?;
+    same(&rt, server.attach_under(rt.alloc(), "theirs: q", "q")?, 0);
+    exchange(rt.alloc(), &mut server, &mut client)?;
+    same(
+        &rt,
+        client.events[0],
+        LinkEvent::Attached {
+            handle: 0,
+            life: Life::Attached,
+        },
+    );
+    same(&rt, client.send(0, b"tone", 0), Ok(0));
+    drop(client);
+    drop(server);
+    Ok(())
+}
+
+#[test]
 fn deliveries_go_by_credit(rt: HostRuntime) -> Result<(), Fail> {
     let (mut client, mut server) = attached(rt.alloc())?;
     same(&rt, client.send(0, b"tone", 0), Ok(0));
@@ -65,6 +86,7 @@ fn deliveries_go_by_credit(rt: HostRuntime) -> Result<(), Fail> {
     exchange(rt.alloc(), &mut client, &mut server)?;
     same(&rt, part(&server), Some((0, true, PartEnd::Last, 3)));
     same(&rt, server.count, 2);
+    same(&rt, server.endpoint.links().is_renewal_due(0), false);
     // The credit was renewed.
     exchange(rt.alloc(), &mut server, &mut client)?;
     same(&rt, client.send(0, b"tthree", flag::MORE), Ok(2));
@@ -108,6 +130,7 @@ fn what_is_unsettled_is_given_back_once(rt: HostRuntime) -> Result<(), Fail> {
             role: Role::Sender,
             first: 0,
             last: 1,
+            by_peer: true,
         },
     );
     same(
@@ -131,10 +154,10 @@ fn a_link_is_detached_and_attached_again(rt: HostRuntime) -> Result<(), Fail> {
     let (mut client, mut server) = attached(rt.alloc())?;
     same(&rt, client.send(0, b"tone", 0), Ok(0));
     exchange(rt.alloc(), &mut client, &mut server)?;
-    let asked = server.endpoint.detach(&mut server.stream, 0, true, None);
-    holds(&rt, is_all_done(asked));
+    let answer = server.endpoint.detach(&mut server.stream, 0, true, None);
+    holds(&rt, is_sent(answer));
     let again = server.endpoint.detach(&mut server.stream, 0, true, None);
-    holds(&rt, again.is_none());
+    holds(&rt, matches!(again, LinkAnswer::NotWanted));
     exchange(rt.alloc(), &mut server, &mut client)?;
     let ended = LinkEvent::Ended {
         handle: 0,
@@ -147,8 +170,10 @@ fn a_link_is_detached_and_attached_again(rt: HostRuntime) -> Result<(), Fail> {
         link: 0,
         given: 70,
     };
-    same(&rt, client.endpoint.left_next(0), Some(left));
-    same(&rt, client.endpoint.left_next(0), None);
+    same(&rt, client.open_deliveries(), 1);
+    same(&rt, client.left_next(0), Some(left));
+    same(&rt, client.left_next(0), None);
+    same(&rt, client.open_deliveries(), 0);
     same(&rt, client.endpoint.left_of_sent(), None);
     same(&rt, client.endpoint.session().0, 0);
     same(&rt, client.endpoint.remove(0), Ok(()));
@@ -175,12 +200,12 @@ fn a_link_is_detached_and_attached_again(rt: HostRuntime) -> Result<(), Fail> {
 #[test]
 fn a_drain_is_answered(rt: HostRuntime) -> Result<(), Fail> {
     let (mut client, mut server) = attached(rt.alloc())?;
-    let asked = server
+    let answer = server
         .endpoint
         .say(&mut server.stream, 0, FlowWish::Grant(5));
-    holds(&rt, is_all_done(asked));
-    let asked = server.endpoint.say(&mut server.stream, 0, FlowWish::Drain);
-    holds(&rt, is_all_done(asked));
+    holds(&rt, is_sent(answer));
+    let answer = server.endpoint.say(&mut server.stream, 0, FlowWish::Drain);
+    holds(&rt, is_sent(answer));
     exchange(rt.alloc(), &mut server, &mut client)?;
     exchange(rt.alloc(), &mut client, &mut server)?;
     same(

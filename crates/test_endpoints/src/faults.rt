@@ -2,9 +2,9 @@
 
 use crate::both::attached;
 use crate::same::{holds, same};
-use crate::side::{exchange, is_all_done, pair};
+use crate::side::{exchange, is_sent, pair};
 use amqp_driver::{NONE, Record, flag, kind};
-use amqp_endpoints::{LinkEvent, SendFailure};
+use amqp_endpoints::{LinkAnswer, LinkEvent, SendFailure};
 use amqp_links::{Life, LinkEnd, LinkFault, PartError, RemoveError, SendError, SendPartError};
 use amqp_types::Role;
 use std::test::Fail;
@@ -38,20 +38,10 @@ fn a_delivery_past_the_limit_ends_the_link(rt: HostRuntime) -> Result<(), Fail> 
         server.endpoint.on_record(&record, 0),
         Ok(LinkEvent::Nothing),
     );
-    holds(
-        &rt,
-        server
-            .endpoint
-            .respond(&mut server.stream, &fault, 0)
-            .is_some(),
-    );
-    holds(
-        &rt,
-        server
-            .endpoint
-            .respond(&mut server.stream, &fault, 0)
-            .is_none(),
-    );
+    let answer = server.endpoint.respond(&mut server.stream, &fault, 0);
+    holds(&rt, is_sent(answer));
+    let again = server.endpoint.respond(&mut server.stream, &fault, 0);
+    holds(&rt, matches!(again, LinkAnswer::NotWanted));
     exchange(rt.alloc(), &mut server, &mut client)?;
     holds(
         &rt,
@@ -127,8 +117,8 @@ fn a_link_is_refused(rt: HostRuntime) -> Result<(), Fail> {
         client.endpoint.remove(link),
         Err(RemoveError::NotDetached),
     );
-    let asked = client.endpoint.respond(&mut client.stream, &ended, 0);
-    holds(&rt, is_all_done(asked));
+    let answer = client.endpoint.respond(&mut client.stream, &ended, 0);
+    holds(&rt, is_sent(answer));
     same(&rt, client.endpoint.remove(link), Ok(()));
     drop(client);
     drop(server);

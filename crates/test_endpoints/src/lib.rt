@@ -9,3 +9,5 @@ mod faults;
 mod same;
 #[cfg(test)]
 mod side;
+#[cfg(test)]
+mod waiting;

@@ -2,9 +2,10 @@
 
 use amqp_connection::SessionNo;
 use amqp_driver::{Asked, PlainRelay, Record, Status, Stream, TransferHead, answers, flag, kind};
-use amqp_endpoints::{LinkEvent, Renewal, SendFailure, SessionEndpoint};
+use amqp_endpoints::{LinkAnswer, LinkEvent, Renewal, SendFailure, SessionEndpoint};
 use amqp_engine::Input;
 use amqp_events::Policy;
+use amqp_links::Entry;
 use amqp_sasl::Opening;
 use amqp_session::keys::KeyHash;
 use amqp_session::{InputHandle, SessionSettings};
@@ -58,13 +59,18 @@ fn new_side(alloc: Global) -> Result<Side, Fail> {
 
 /// Two sides whose session is mapped.
 pub fn pair(alloc: Global) -> Result<(Side, Side), Fail> {
+    pair_by(alloc, SessionSettings::new())
+}
+
+/// The same, where the client begins the session by these settings.
+pub fn pair_by(alloc: Global, settings: SessionSettings) -> Result<(Side, Side), Fail> {
     let mut client = new_side(alloc)?;
     let mut server = new_side(alloc)?;
     let _ = is_done(client.stream.request(Input::Open));
     let _ = is_done(server.stream.request(Input::Open));
     exchange(alloc, &mut client, &mut server)?;
     exchange(alloc, &mut server, &mut client)?;
-    let begin = Input::Begin(SESSION, SessionSettings::new());
+    let begin = Input::Begin(SESSION, settings);
     let _ = is_done(client.stream.request(begin));
     exchange(alloc, &mut client, &mut server)?;
     exchange(alloc, &mut server, &mut client)?;
@@ -80,6 +86,14 @@ pub fn is_all_done(asked: Option<Asked>) -> bool {
     match asked {
         Some(asked) => is_done(asked),
         None => false,
+    }
+}
+
+/// Whether a flow or a Detach was asked for, and is done.
+pub fn is_sent(answer: LinkAnswer) -> bool {
+    match answer {
+        LinkAnswer::Asked(asked) => is_done(asked),
+        LinkAnswer::HeldBack | LinkAnswer::NotWanted => false,
     }
 }
 
@@ -135,11 +149,39 @@ impl Side {
         let Ok(event) = self.endpoint.on_record(record, 7) else {
             return;
         };
+        self.follow(event);
+        for _ in 0..MOST {
+            let due = self.endpoint.due_next(&self.stream);
+            if due == LinkEvent::Nothing {
+                break;
+            }
+            self.follow(due);
+        }
+    }
+
+    /// An event is kept, and what the link owes for it is sent.
+    fn follow(&mut self, event: LinkEvent) {
         if event != LinkEvent::Nothing && self.count < MOST {
             self.events[self.count] = event;
             self.count += 1;
         }
         drop(self.endpoint.respond(&mut self.stream, &event, 0));
+    }
+
+    /// How many deliveries its session has open.
+    pub fn open_deliveries(&self) -> usize {
+        match self.stream.engine().session(SESSION) {
+            Some(session) => session.open_deliveries(),
+            None => 0,
+        }
+    }
+
+    /// The next delivery that is left on a link.
+    pub fn left_next(&mut self, link: u32) -> Option<Entry> {
+        match self.endpoint.left_next(&mut self.stream, link) {
+            Ok(left) => left,
+            Err(_) => None,
+        }
     }
 
     /// Attaches a link of this name.
@@ -172,6 +214,36 @@ impl Side {
         attach.source = Some(terminus(alloc)?);
         attach.target = Some(terminus(alloc)?);
         match self.endpoint.attach(&mut self.stream, attach, renewal) {
+            Ok(handle) => {
+                self.answer(handle.0);
+                Ok(handle.0)
+            }
+            Err(_) => Err(Fail::new("not attached")),
+        }
+    }
+
+    /// Attaches a receiver of this name whose handle is allotted to another one, in answer to the peer's Attach.
+    pub fn attach_under(&mut self, alloc: Global, under: &str, name: &str) -> Result<u32, Fail> {
+        let Some(record) = self.wanted else {
+            return Err(Fail::new("no Attach has come"));
+        };
+        let relay = PlainRelay::new(Policy::new(Role::Receiver, ReceiverSettleMode::First));
+        drop(
+            self.stream.request(Input::AllocateIncomingLink(
+                SESSION,
+                String::from_str(alloc, under)?,
+                relay,
+                InputHandle(record.input),
+            )),
+        );
+        let mut attach = Attach::new(String::from_str(alloc, name)?, Handle(0), Role::Receiver);
+        attach.source = Some(terminus(alloc)?);
+        attach.target = Some(terminus(alloc)?);
+        let renewal = Some(Renewal { low: 1, high: 2 });
+        match self
+            .endpoint
+            .attach_under(&mut self.stream, under, attach, renewal)
+        {
             Ok(handle) => {
                 self.answer(handle.0);
                 Ok(handle.0)

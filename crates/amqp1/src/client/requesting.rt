@@ -5,7 +5,7 @@ ghost use Rattle.amqp1.specs.declared.status.Status.TheVariants.{Done};
 ghost use Rattle.amqp1.specs.Asked.{AllotsOn, Answers, PerformsDispose, RunsFound, RunsOne};
 ghost use Rattle.amqp1.specs.Linking.{link_said};
 ghost use Rattle.amqp1.specs.Client.{PerformsLink, ShowsHandle, handle_in};
-ghost use Rattle.amqp1.specs.LinkCalls.{attached_as, last_attached, settled_status};
+ghost use Rattle.amqp1.specs.LinkCalls.{attached_as, last_attached, last_settled, settled_status};
 ghost use Rattle.amqp1.specs.Occupant.{last_said, said_status};
 ghost use Rattle.amqp1.specs.Refused.{last_by};
 ghost use Rattle.amqp1.specs.Status.{status_of};
@@ -20,7 +20,7 @@ use crate::writing::write;
 use crate::{asking, disposing};
 use amqp_connection::SessionNo;
 use amqp_driver::{Asked, PlainRelay};
-use amqp_endpoints::AttachError;
+use amqp_endpoints::{AttachError, LinkAnswer};
 use amqp_engine::Input;
 use amqp_session::{LinkRelay, OutputHandle};
 use amqp_types::ReadError;
@@ -78,20 +78,21 @@ impl Client {
     }
 
     /// The status of a request of a link's, if one was made. Its refusal is kept, if it is one.
-    pub(super) fn note_said(&mut self, asked: Option<Asked>) -> Status
-        ensures status { result ≡ said_status asked }
-        ensures noted { self.new ≡ record self.old { last = last_said self.old.last self.old.stream.driver.engine.connection.state asked } }
+    pub(super) fn note_said(&mut self, answer: LinkAnswer) -> Status
+        ensures status { result ≡ said_status answer }
+        ensures noted { self.new ≡ record self.old { last = last_said self.old.last self.old.stream.driver.engine.connection.state answer } }
     {
-        match asked {
-            Some(asked) => self.note(asked),
-            None => Status::Nothing,
+        match answer {
+            LinkAnswer::Asked(asked) => self.note(asked),
+            LinkAnswer::HeldBack => Status::HeldBack,
+            LinkAnswer::NotWanted => Status::Nothing,
         }
     }
 
     /// The status of a disposition. `BadArgument` where its outcome is none; a refusal is kept.
     pub(super) fn note_settled(&mut self, asked: Option<Asked>) -> Status
         ensures status { result ≡ settled_status asked }
-        ensures noted { self.new ≡ record self.old { last = last_said self.old.last self.old.stream.driver.engine.connection.state asked } }
+        ensures noted { self.new ≡ record self.old { last = last_settled self.old.last self.old.stream.driver.engine.connection.state asked } }
     {
         match asked {
             Some(asked) => self.note(asked),

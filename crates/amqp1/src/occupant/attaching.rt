@@ -10,20 +10,22 @@ use amqp_session::{LinkRelay, OutputHandle, keys};
 use amqp_types::Attach;
 
 impl Occupant {
-    /// Attaches a link, by [`SessionEndpoint::attach`](amqp_endpoints::SessionEndpoint::attach). Its handle.
+    /// Attaches a link whose handle is allotted to this name, or, where it is empty, to that of the Attach, by
+    /// [`SessionEndpoint::attach_under`](amqp_endpoints::SessionEndpoint::attach_under). Its handle.
     ///
     /// # Errors
     /// `NoMemory`; or `Refused`, with the name of the refusal: `NoLink` or `InUse`, or that of the request.
     pub fn attach(
         &mut self,
         session: u32,
+        name: &str,
         attach: Attach,
         renewal: Option<Renewal>,
     ) -> Result<OutputHandle, Status>
-        ensures { AttachesLinkOf ⟦<PlainRelay as LinkRelay>⟧.gives session attach renewal self.old result self.new }
+        ensures { AttachesLinkOf ⟦<PlainRelay as LinkRelay>⟧.gives session name.now attach renewal self.old result self.new }
     {
         match self.provide(session) {
-            Ok(()) => self.attach_on(session, attach, renewal),
+            Ok(()) => self.attach_on(session, name, attach, renewal),
             Err(_) => {
                 drop(attach);
                 Err(Status::NoMemory)
@@ -35,16 +37,17 @@ impl Occupant {
     fn attach_on(
         &mut self,
         session: u32,
+        name: &str,
         attach: Attach,
         renewal: Option<Renewal>,
     ) -> Result<OutputHandle, Status>
-        ensures { AttachesOn ⟦<PlainRelay as LinkRelay>⟧.gives session attach renewal self.old result self.new }
+        ensures { AttachesOn ⟦<PlainRelay as LinkRelay>⟧.gives session name.now attach renewal self.old result self.new }
     {
         let hint = self.hints.of(session);
         let Some(links) = keys::get_mut(&mut self.links, hint, &session) else {
             drop(attach);
             return Err(Status::Nothing);
         };
-        self.client.attach(links, attach, renewal)
+        self.client.attach(links, name, attach, renewal)
     }
 }

@@ -2,7 +2,7 @@
 
 ghost use Rattle.std.specs.Prelude.{◌≡◌};
 ghost use Rattle.amqp1.specs.Delivering.{delivered_of};
-ghost use Rattle.amqp1.specs.LinkNumbers.{AttachesFor, DetachesFor, FlowsFor, ForgetsFor, LeavesAllFor, LeavesFor, RemovesFor, RespondsFor, SendsFor, SettledFor, SettlesFor, TellsEvent, TellsFor, TellsLink, TellsUnsettled, WantedFor, is_set, removed_status, renewal_of, wish_at};
+ghost use Rattle.amqp1.specs.LinkNumbers.{AttachesFor, DetachesFor, DisposesFor, DueFor, FlowsFor, ForgetsFor, LeavesAllFor, LeavesFor, RemovesFor, RespondsFor, SendsFor, SettledFor, SettlesFor, TellsEvent, TellsFor, TellsLink, TellsUnsettled, WantedFor, is_set, removed_status, renewal_of, wish_at};
 ghost use Rattle.amqp1.specs.Reading.{role_of};
 
 use super::Occupant;
@@ -97,20 +97,40 @@ fn removed_status(removed: Result<(), RemoveError>) -> Status
 }
 
 impl Occupant {
-    /// A link is attached, by the bytes of its Attach; its handle is written. It renews its credit from `low` up to `high`, unless that is 0.
+    /// A link is attached, by the bytes of its Attach; its handle is written, which is allotted to this name, or, where it is empty, to that of the Attach. It
+    /// renews its credit from `low` up to `high`, unless that is 0.
     pub fn attach_for(
         &mut self,
         session: u32,
         text: &[u8],
+        name: &[u8],
         low: u32,
         high: u32,
         link: &mut u32,
     ) -> Status
-        ensures { AttachesFor ⟦<PlainRelay as LinkRelay>⟧.gives session text.now (renewal_of low high) link.old self.old result link.new self.new }
+        ensures { AttachesFor ⟦<PlainRelay as LinkRelay>⟧.gives session text.now name.now (renewal_of low high) link.old self.old result link.new self.new }
+    {
+        match std::str::from_utf8(name) {
+            Ok(name) => self.attach_text(session, text, name, low, high, link),
+            Err(_) => Status::BadArgument,
+        }
+    }
+
+    /// The same under a name that is text.
+    fn attach_text(
+        &mut self,
+        session: u32,
+        text: &[u8],
+        name: &str,
+        low: u32,
+        high: u32,
+        link: &mut u32,
+    ) -> Status
+        ensures { AttachesFor ⟦<PlainRelay as LinkRelay>⟧.gives session text.now name.now (renewal_of low high) link.old self.old result link.new self.new }
     {
         match reading::attach(self.alloc, text) {
             Ok(attach) => {
-                let attached = self.attach(session, attach, renewal_of(low, high));
+                let attached = self.attach(session, name, attach, renewal_of(low, high));
                 tell_link(attached, link)
             }
             Err(ReadError::Malformed) => Status::BadArgument,
@@ -183,6 +203,20 @@ impl Occupant {
         self.tell_event(told.session, answer, event)
     }
 
+    /// A link that is due is written. `Nothing` where there is none.
+    pub fn due_for(&mut self, session: u32, event: &mut Event) -> Status
+        ensures { DueFor session event.old self.old result event.new self.new }
+    {
+        match self.due_next(session) {
+            LinkEvent::Nothing => Status::Nothing,
+            due => {
+                let credit = self.credit(session, link_of(&due));
+                *event = event_of(session, due, credit);
+                Status::Done
+            }
+        }
+    }
+
     /// A transfer is sent on a link, and what became of it is written.
     pub fn send_for(
         &mut self,
@@ -216,6 +250,17 @@ impl Occupant {
         }
     }
 
+    /// A disposition of any state is sent, by its bytes.
+    pub fn dispose_for(&mut self, session: u32, text: &[u8]) -> Status
+        ensures { DisposesFor ⟦<PlainRelay as LinkRelay>⟧.gives session text.now self.old result self.new }
+    {
+        match reading::disposition(self.alloc, text) {
+            Ok(disposition) => self.settle_by(session, disposition),
+            Err(ReadError::Malformed) => Status::BadArgument,
+            Err(ReadError::OutOfMemory) => Status::NoMemory,
+        }
+    }
+
     /// The oldest unsettled delivery of a range, which is settled, is taken out and written.
     pub fn settled_for(
         &mut self,
@@ -238,10 +283,12 @@ impl Occupant {
 
     /// The oldest delivery that is left on a link is taken out and written.
     pub fn left_for(&mut self, session: u32, link: u32, told: &mut Unsettled) -> Status
-        ensures { LeavesFor session link told.old self.old result told.new self.new }
+        ensures { LeavesFor ⟦<PlainRelay as LinkRelay>⟧.gives session link told.old self.old result told.new self.new }
     {
-        let entry = self.left_next(session, link);
-        tell_unsettled(entry, told)
+        match self.left_next(session, link) {
+            Ok(entry) => tell_unsettled(entry, told),
+            Err(_) => Status::NoMemory,
+        }
     }
 
     /// The oldest delivery that is left in a session which is over is taken out and written.

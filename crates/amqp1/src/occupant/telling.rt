@@ -1,6 +1,6 @@
 //! Records that come for a session's links.
 
-ghost use Rattle.amqp1.specs.LinkCalls.{TellsLinks, TellsWanted};
+ghost use Rattle.amqp1.specs.LinkCalls.{DuesOf, TellsLinks, TellsWanted};
 
 use super::Occupant;
 use amqp_driver::Record;
@@ -29,5 +29,16 @@ impl Occupant {
             return Ok(LinkEvent::Nothing);
         };
         links.on_wanted(told, link)
+    }
+
+    /// A link of a session of which a call was held back, and is due, by [`SessionEndpoint::due_next`](amqp_endpoints::SessionEndpoint::due_next).
+    pub fn due_next(&mut self, session: u32) -> LinkEvent
+        ensures { DuesOf session self.old result self.new }
+    {
+        let hint = self.hints.of(session);
+        let Some(links) = keys::get_mut(&mut self.links, hint, &session) else {
+            return LinkEvent::Nothing;
+        };
+        self.client.due_next(links)
     }
 }

@@ -192,7 +192,14 @@ impl SessionEndpoint {
         requires room { handle < length self.old.links.ends }
         ensures { AddsLink self.old handle end self.new }
     {
-        self.places.put(handle, LinkPlace::none());
+        let before = self.places.get(handle);
+        self.places.put(
+            handle,
+            LinkPlace {
+                is_listed: before.is_listed,
+                ..LinkPlace::none()
+            },
+        );
         drop(match end {
             NewEnd::Sending(count) => self.links.add_sender(handle, count),
             NewEnd::Receiving(renewal, limit) => self.links.add_receiver(handle, renewal, limit),

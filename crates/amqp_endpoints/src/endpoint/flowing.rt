@@ -1,19 +1,20 @@
 //! What this side says of its links: flows, and Detaches.
 
-ghost use Rattle.std.specs.Prelude.{◌≡◌};
+ghost use Rattle.std.specs.Prelude.{◌≡◌, Some};
 ghost use Rattle.amqp_links.specs.Session.{life_of};
 ghost use Rattle.amqp_links.specs.declared.session.granting.FlowWish.TheVariants.{Renew};
-ghost use Rattle.amqp_endpoints.specs.Flowing.{AsksDetach, AsksEnd, AsksFlow, Detaches, EndsFor, Responds, SaysFlow, awaits, is_done, waits_for};
+ghost use Rattle.amqp_endpoints.specs.Flowing.{AsksDetach, AsksEnd, AsksFlow, Detaches, DetachesFor, EndsFor, Pays, Releases, Responds, SaysFlow, SaysPrepared, awaits, is_done, waits_for};
+ghost use Rattle.amqp_endpoints.specs.Places.{place_at};
 
 use super::SessionEndpoint;
-use crate::event::LinkEvent;
+use crate::event::{LinkAnswer, LinkEvent};
 use crate::flows::{detach_of, fault_error, flow_of};
 use crate::place::LinkPlace;
 use amqp_driver::{Asked, Stream};
 use amqp_engine::Input;
 use amqp_links::{End, FlowWish, Life, LinkFault, PreparedFlow};
 use amqp_session::LinkRelay;
-use amqp_types::Error;
+use amqp_types::{Error, Role};
 
 /// Whether a request was done.
 pub(super) fn is_done(asked: &Asked) -> bool
@@ -36,23 +37,38 @@ fn waits_for(end: End, owes: bool) -> Option<bool>
 
 impl SessionEndpoint {
     /// A flow of the link that has this handle is sent, for this wish: a receiver grants credit, drains, or renews by its rule; either end answers what the peer
-    /// asked for (AMQP 1.0 part 2, sections 2.6.7 and 2.7.4). `None` where no flow is wanted, and nothing changes then: no end has the handle, it is not
-    /// attached, it is a sender's and the wish a receiver's, no credit is to be renewed, or nothing is to be answered.
+    /// asked for (AMQP 1.0 part 2, sections 2.6.7 and 2.7.4). [`LinkAnswer::NotWanted`] where no flow is, and nothing changes then: no end has the handle, it is
+    /// not attached, it is a sender's and the wish a receiver's, no credit is to be renewed, or nothing is to be answered.
     ///
-    /// The link stands as after the flow where the answer is [`Asked::Done`]. Of any other answer it stands as before, and the call may be made again.
-    ///
-    /// A flow goes out at once. The answer to a drain overtakes transfers that the session holds back for the peer's window: the peer counts them as used up.
+    /// The link stands as after the flow where the answer is [`Asked::Done`]. Of any other answer it stands as before, and the call may be made again. A sender's
+    /// is [`LinkAnswer::HeldBack`] while transfers of the link wait for the peer's window: the peer would count them as used up.
     pub fn say<R: LinkRelay>(
         &mut self,
         stream: &mut Stream<R>,
         handle: u32,
         wish: FlowWish,
-    ) -> Option<Asked>
+    ) -> LinkAnswer
         ensures { SaysFlow R.gives self.old stream.old handle wish result stream.new self.new }
     {
         match self.links.prepare_flow(handle, wish) {
-            Some(prepared) => Some(self.ask_flow(stream, handle, &prepared)),
-            None => None,
+            Some(prepared) => self.say_or_wait(stream, handle, &prepared),
+            None => LinkAnswer::NotWanted,
+        }
+    }
+
+    /// The flow that was prepared is requested, unless it would overtake transfers of the link.
+    fn say_or_wait<R: LinkRelay>(
+        &mut self,
+        stream: &mut Stream<R>,
+        handle: u32,
+        prepared: &PreparedFlow,
+    ) -> LinkAnswer
+        ensures { SaysPrepared (Some prepared.now) R.gives self.old stream.old handle result stream.new self.new }
+    {
+        if self.is_held_back(stream, handle) {
+            self.hold_back(handle)
+        } else {
+            LinkAnswer::Asked(self.ask_flow(stream, handle, prepared))
         }
     }
 
@@ -73,27 +89,44 @@ impl SessionEndpoint {
     }
 
     /// A Detach of the link that has this handle is sent, with an error or without: nothing is sent or told on it from then on (section 2.6.5). `closed` ends
-    /// the link for good (section 2.6.6). `None` where no end has the handle, or this side's Detach was sent before.
+    /// the link for good (section 2.6.6). [`LinkAnswer::NotWanted`] where no end has the handle, or this side's Detach was sent before.
     ///
-    /// The link stands as after it where the answer is [`Asked::Done`]. Of any other answer it stands as before, and the call may be made again.
-    ///
-    /// Transfers that the session holds back for the peer's window ([`Session::held_back`](amqp_session::Session::held_back)) go out after the Detach, and
-    /// under a handle that is detached. Call it where none of the link is held back: where all that was sent on it is settled, or none of the session is.
+    /// The link stands as after it where the answer is [`Asked::Done`]. Of any other answer it stands as before, and the call may be made again. It is
+    /// [`LinkAnswer::HeldBack`] while transfers of the link wait for the peer's window: they would go out under a handle that is detached.
     pub fn detach<R: LinkRelay>(
         &mut self,
         stream: &mut Stream<R>,
         handle: u32,
         closed: bool,
         error: Option<Error>,
-    ) -> Option<Asked>
+    ) -> LinkAnswer
         ensures { Detaches R.gives self.old stream.old handle closed error result stream.new self.new }
     {
         match self.awaits(handle) {
-            Some(waits) => Some(self.ask_detach(stream, handle, closed, error, waits)),
+            Some(waits) => self.detach_or_wait(stream, handle, closed, error, waits),
             None => {
                 drop(error);
-                None
+                LinkAnswer::NotWanted
             }
+        }
+    }
+
+    /// The Detach is requested, unless it would overtake transfers of the link.
+    fn detach_or_wait<R: LinkRelay>(
+        &mut self,
+        stream: &mut Stream<R>,
+        handle: u32,
+        closed: bool,
+        error: Option<Error>,
+        waits: bool,
+    ) -> LinkAnswer
+        ensures { DetachesFor (Some waits) R.gives self.old stream.old handle closed error result stream.new self.new }
+    {
+        if self.is_held_back(stream, handle) {
+            drop(error);
+            self.hold_back(handle)
+        } else {
+            LinkAnswer::Asked(self.ask_detach(stream, handle, closed, error, waits))
         }
     }
 
@@ -133,15 +166,16 @@ impl SessionEndpoint {
 
     /// Sends what a link owes for an event that [`SessionEndpoint::on_record`] told, if it owes anything: a flow, where credit is to be renewed or the peer asked for
     /// one; or a Detach, in answer to the peer's, or for what the peer may not do, with the condition of [`LinkFault::condition`]. `available` is how many
-    /// messages are ready to be sent on the link.
+    /// messages are ready to be sent on the link. Of what is settled by the relay's answer the session lets its own records go.
     ///
-    /// Where the answer is [`Asked::NoMemory`] it may be called again.
+    /// Where the answer is [`Asked::NoMemory`] it may be called again. Where it is [`LinkAnswer::HeldBack`] the link still owes it, and
+    /// [`SessionEndpoint::due_next`] tells when it is to be called again, with [`LinkEvent::Due`].
     pub fn respond<R: LinkRelay>(
         &mut self,
         stream: &mut Stream<R>,
         event: &LinkEvent,
         available: u32,
-    ) -> Option<Asked>
+    ) -> LinkAnswer
         ensures { Responds R.gives self.old stream.old event.now available result stream.new self.new }
     {
         match *event {
@@ -156,25 +190,61 @@ impl SessionEndpoint {
                 end: _,
                 closed,
             } => self.detach(stream, handle, closed, None),
-            LinkEvent::Nothing
-            | LinkEvent::PassedOver { handle: _ }
-            | LinkEvent::Settled {
-                role: _,
-                first: _,
-                last: _,
-            } => None,
+            LinkEvent::Due { handle } => self.pay(stream, handle, available),
+            LinkEvent::Settled {
+                role,
+                first,
+                last,
+                by_peer,
+            } => self.release(stream, role, first, last, by_peer),
+            LinkEvent::Nothing | LinkEvent::PassedOver { handle: _ } => LinkAnswer::NotWanted,
+        }
+    }
+
+    /// A link sends what it owes the peer: a Detach, where one is to be sent; else a flow in answer.
+    fn pay<R: LinkRelay>(
+        &mut self,
+        stream: &mut Stream<R>,
+        handle: u32,
+        available: u32,
+    ) -> LinkAnswer
+        ensures { Pays (place_at self.old.places handle).owes R.gives self.old stream.old handle available result stream.new self.new }
+    {
+        let place = self.places.get(handle);
+        if place.owes {
+            self.detach(stream, handle, place.closes, None)
+        } else {
+            self.say(stream, handle, FlowWish::Answer(available))
+        }
+    }
+
+    /// The session lets deliveries go that this side's relay has settled. What the peer has settled is gone.
+    fn release<R: LinkRelay>(
+        &self,
+        stream: &mut Stream<R>,
+        role: Role,
+        first: u32,
+        last: u32,
+        by_peer: bool,
+    ) -> LinkAnswer
+        ensures { Releases by_peer R.gives self.now stream.old role first last result stream.new }
+    {
+        if by_peer {
+            LinkAnswer::NotWanted
+        } else {
+            LinkAnswer::Asked(self.let_go(stream, role, first, last))
         }
     }
 
     /// A flow that renews a link's credit is sent, if one is due. That is looked at first, since mostly none is.
     #[tactic(auto, using(amqp_links::proofs::DueLemmas::none_prepared))]
-    fn renew<R: LinkRelay>(&mut self, stream: &mut Stream<R>, handle: u32) -> Option<Asked>
+    fn renew<R: LinkRelay>(&mut self, stream: &mut Stream<R>, handle: u32) -> LinkAnswer
         ensures { SaysFlow R.gives self.old stream.old handle Renew result stream.new self.new }
     {
         if self.links.is_renewal_due(handle) {
             self.say(stream, handle, FlowWish::Renew)
         } else {
-            None
+            LinkAnswer::NotWanted
         }
     }
 
@@ -184,12 +254,12 @@ impl SessionEndpoint {
         stream: &mut Stream<R>,
         handle: u32,
         fault: LinkFault,
-    ) -> Option<Asked>
+    ) -> LinkAnswer
         ensures { EndsFor R.gives self.old stream.old handle fault result stream.new self.new }
     {
         match self.awaits(handle) {
-            Some(waits) => Some(self.ask_end(stream, handle, fault, waits)),
-            None => None,
+            Some(waits) => LinkAnswer::Asked(self.ask_end(stream, handle, fault, waits)),
+            None => LinkAnswer::NotWanted,
         }
     }
 

@@ -1,7 +1,8 @@
 //! Transfers that are to be sent on a session's links.
 
 ghost use Rattle.std.specs.Prelude.{◌≡◌};
-ghost use Rattle.amqp_endpoints.specs.Sending.{AsksPart, Finishes, PostsHead, SendsDelivery, end_of, is_first_of, number_of, numbered, whole_head};
+ghost use Rattle.amqp_endpoints.specs.Sending.{AsksPart, Finishes, PostsHead, SendsDelivery, end_of, is_first_of, number_of, numbered, one_more, sent_place, whole_head};
+ghost use Rattle.amqp_endpoints.specs.Places.{PutsPlace};
 
 use super::SessionEndpoint;
 use crate::place::LinkPlace;
@@ -179,16 +180,24 @@ impl SessionEndpoint {
     {
         let number = prepared.part().number;
         let settled = self.links.finish_send(prepared);
-        if prepared.is_first() {
-            let place = self.places.get(link);
-            self.places.put(
-                link,
-                LinkPlace {
-                    begun: number,
-                    ..place
-                },
-            );
-        }
+        self.note_sent(link, number, prepared.is_first());
         SentDelivery { number, settled }
+    }
+
+    /// A transfer was sent on the link: of this delivery, which begins by it or not.
+    fn note_sent(&mut self, link: u32, number: u32, is_first: bool)
+        ensures place { PutsPlace self.old.places link (sent_place self.old link number is_first) self.new.places }
+        ensures rest { self.new ≡ record self.old { places = self.new.places; sent = one_more self.old.sent } }
+    {
+        let place = self.places.get(link);
+        self.sent = self.sent.saturating_add(1);
+        self.places.put(
+            link,
+            LinkPlace {
+                begun: if is_first { number } else { place.begun },
+                sent: self.sent,
+                ..place
+            },
+        );
     }
 }

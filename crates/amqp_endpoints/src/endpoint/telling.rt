@@ -2,14 +2,15 @@
 
 ghost use Rattle.std.specs.Prelude.{◌≡◌};
 ghost use Rattle.amqp_endpoints.specs.Places.{PutsPlace, place_at};
+ghost use Rattle.amqp_endpoints.specs.Reading.{first_attach};
 ghost use Rattle.amqp_endpoints.specs.Telling.{OnRecord, TellsAttach, TellsDetach, TellsFlow, TellsLink, TellsPart, is_unanswered, keeps_tag, link_by, owing};
 
 use super::SessionEndpoint;
 use crate::event::{LinkEvent, RecordError};
 use crate::place::LinkPlace;
-use crate::reading::{credit_flow, part_head, peer_attach, settled_range};
+use crate::reading::{credit_flow, first_attach, part_head, peer_attach, settled_range};
 use amqp_driver::{NONE, Record, flag, kind};
-use amqp_links::{LinkEnd, Part, PartEnd, TakePartError, TransferError};
+use amqp_links::{LinkEnd, Part, PartEnd, PeerAttach, TakePartError, TransferError};
 
 /// Whether a Detach of the peer's is to be answered by one.
 fn is_unanswered(end: LinkEnd) -> bool
@@ -60,12 +61,25 @@ impl SessionEndpoint {
     }
 
     /// The peer's Attach that came before this side's, as a record of [`ATTACH_WANTED`](amqp_driver::kind::ATTACH_WANTED), is told to the link that answers
-    /// it, which [`SessionEndpoint::attach`] has attached under this handle. [`LinkEvent::Nothing`] where no end has the handle.
+    /// it, which [`SessionEndpoint::attach`] has attached under this handle. It refuses nothing, also where it has no source or no target (section 2.6.3).
+    /// [`LinkEvent::Nothing`] where no end has the handle.
     ///
     /// # Errors
     /// [`RecordError::OutOfMemory`] where memory was refused. Nothing has changed then, and it may be told again.
     pub fn on_wanted(&mut self, told: &Record, handle: u32) -> Result<LinkEvent, RecordError>
-        ensures { TellsAttach self.old told.now handle result self.new }
+        ensures { TellsAttach self.old told.now handle (first_attach told.now) result self.new }
+    {
+        self.on_attach(told, handle, first_attach(told))
+    }
+
+    /// An Attach of the peer's is told to the link that has this handle: it says this.
+    fn on_attach(
+        &mut self,
+        told: &Record,
+        handle: u32,
+        attach: PeerAttach,
+    ) -> Result<LinkEvent, RecordError>
+        ensures { TellsAttach self.old told.now handle attach result self.new }
     {
         if self.links.end(handle).is_none() {
             return Ok(LinkEvent::Nothing);
@@ -73,7 +87,7 @@ impl SessionEndpoint {
         let Ok(()) = self.inputs.put(told.input, handle) else {
             return Err(RecordError::OutOfMemory);
         };
-        match self.links.on_attach(handle, peer_attach(told)) {
+        match self.links.on_attach(handle, attach) {
             Some(life) => Ok(LinkEvent::Attached { handle, life }),
             None => Ok(LinkEvent::Nothing),
         }
@@ -104,7 +118,7 @@ impl SessionEndpoint {
         } else if told.kind == kind::FLOW {
             Ok(self.on_flow(told, handle))
         } else if told.kind == kind::ATTACHED {
-            self.on_wanted(told, handle)
+            self.on_attach(told, handle, peer_attach(told))
         } else if told.kind == kind::DETACHED {
             Ok(self.on_detach(told, handle))
         } else {
@@ -119,7 +133,7 @@ impl SessionEndpoint {
             None => LinkEvent::Nothing,
             Some(Ok(used)) => LinkEvent::Flow { handle, used },
             Some(Err(fault)) => {
-                self.owe(handle);
+                self.owe(handle, true);
                 LinkEvent::Fault { handle, fault }
             }
         }
@@ -157,7 +171,7 @@ impl SessionEndpoint {
                 Ok(LinkEvent::PassedOver { handle })
             }
             Err(TakePartError::Link(TransferError::Fault(fault))) => {
-                self.owe(handle);
+                self.owe(handle, true);
                 Ok(LinkEvent::Fault { handle, fault })
             }
             Err(TakePartError::NotNext) => Err(RecordError::NotNext),
@@ -172,19 +186,20 @@ impl SessionEndpoint {
         let Some(end) = self.links.on_detach(handle) else {
             return LinkEvent::Nothing;
         };
+        let closed = flag::is_set(told.flags, flag::FOR_GOOD);
         if is_unanswered(end) {
-            self.owe(handle);
+            self.owe(handle, closed);
         }
         LinkEvent::Ended {
             handle,
             end,
-            closed: flag::is_set(told.flags, flag::FOR_GOOD),
+            closed,
         }
     }
 
-    /// This side's Detach is to be sent for the link that has this handle.
-    fn owe(&mut self, handle: u32)
-        ensures place { PutsPlace self.old.places handle (owing self.old handle) self.new.places }
+    /// This side's Detach is to be sent for the link that has this handle. It closes the link for good, or not.
+    fn owe(&mut self, handle: u32, closes: bool)
+        ensures place { PutsPlace self.old.places handle (owing self.old handle closes) self.new.places }
         ensures rest { self.new ≡ record self.old { places = self.new.places } }
     {
         let place = self.places.get(handle);
@@ -192,6 +207,7 @@ impl SessionEndpoint {
             handle,
             LinkPlace {
                 owes: true,
+                closes,
                 ..place
             },
         );

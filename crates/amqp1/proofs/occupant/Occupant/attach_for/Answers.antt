@@ -1,14 +1,8 @@
-use Rattle.std.proofs.Common.{inr, subst}
+use Rattle.std.proofs.Common.{subst}
 use Rattle.amqp_driver.specs.contracts.plain.PlainRelayLinkRelay.TheImpl.{ghosts}
-use Rattle.amqp1.specs.LinkCalls.{AttachesLinkOf}
+use Rattle.amqp1.specs.LinkNumbers.{AttachesFor, renewal_of}
 use Rattle.amqp1.proofs.occupant.Occupant.attach_for.Goals as goal
 
 pub returns-in-Ok : goal.returns-in-Ok
-returns-in-Ok c = inr (inr (
-  c.in-Ok.attach,
-  c.in-Ok.ensures.0,
-  c.attach-attached.result,
-  subst (λ rule. AttachesLinkOf ghosts.gives c.args.session c.in-Ok.attach rule c.args.self.now c.attach-attached.result c.attach-attached.new.self)
-      c.renewal_of.ensures c.attach-attached.ensures,
-  c.tell_link.ensures,
-))
+returns-in-Ok c = subst (λ n. AttachesFor ghosts.gives c.args.session c.args.text.now n (renewal_of c.args.low c.args.high) c.args.link.now c.args.self.now
+    c.attach_text.result c.attach_text.new.link c.attach_text.new.self) c.in-Ok.ensures.cases.0 c.attach_text.ensures

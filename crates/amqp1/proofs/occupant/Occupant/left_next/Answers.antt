@@ -2,14 +2,15 @@ use Rattle.std.proofs.Common.{ap, sym, refl, ◌∙◌, Some, None}
 use Rattle.std.specs.FinMap.{from_entries}
 use Rattle.std.specs.HashMap.{HashMap}
 use Rattle.std.specs.Option.{option_copied_mut}
-use Rattle.amqp_endpoints.specs.Endpoint.{LeavesLink}
-use Rattle.amqp1.specs.LinkCalls.{StepsBy}
+use Rattle.amqp_driver.specs.contracts.plain.PlainRelayLinkRelay.TheImpl.{ghosts}
+use Rattle.std.specs.Prelude.{Ok}
+use Rattle.amqp1.specs.LinkCalls.{LeavesBy}
 use Rattle.amqp1.proofs.OccupantLemmas.{found_there, lent}
 use Rattle.amqp1.proofs.occupant.Occupant.left_next.Goals as goal
 
 pub returns-in_default : goal.returns-in_default
-returns-in_default c = found_there (λ r x. StepsBy r None (λ v y w. LeavesLink v c.args.link y w) c.args.session x None (record { client = c.self.inside.client; links = from_entries c.get_mut.follows.lender-at-none.entries })) c.args.session _ c.self.inside.client c.self.inside.links.entries None (sym c.self.view_is) (sym c.get_mut.ensures.value ∙ ap option_copied_mut c.in_default.is) (refl, ap (λ (m : HashMap _ _ _). record { client = c.self.inside.client; links = from_entries m.entries }) c.get_mut.follows.holds-at-none)
+returns-in_default c = found_there (λ r x. LeavesBy r ghosts.gives c.args.session c.args.link x (Ok None) (record { client = c.self.inside.client; links = from_entries c.get_mut.follows.lender-at-none.entries })) c.args.session _ c.self.inside.client c.self.inside.links.entries None (sym c.self.view_is) (sym c.get_mut.ensures.value ∙ ap option_copied_mut c.in_default.is) (refl, ap (λ (m : HashMap _ _ _). record { client = c.self.inside.client; links = from_entries m.entries }) c.get_mut.follows.holds-at-none)
 
 pub returns : goal.returns
-returns c = found_there (λ r x. StepsBy r None (λ v y w. LeavesLink v c.args.link y w) c.args.session x c.left_next.result (record { client = c.self.inside.client; links = from_entries (c.get_mut.follows.lender c.left_next.new.self).entries })) c.args.session _ c.self.inside.client c.self.inside.links.entries (Some c.in-Some.links.now) (sym c.self.view_is)
-    (sym c.in-Some.ensures.value) (c.left_next.new.self, c.left_next.ensures, ap (λ m. record { client = c.self.inside.client; links = m }) (lent c.self.inside.links.entries _ c.args.session c.in-Some.links.now c.left_next.new.self (sym c.in-Some.ensures.value) (c.get_mut.follows.holds c.left_next.new.self)))
+returns c = found_there (λ r x. LeavesBy r ghosts.gives c.args.session c.args.link x c.left_next.result (record { client = c.left_next.new.self; links = from_entries (c.get_mut.follows.lender c.left_next.new.links).entries })) c.args.session _ c.self.inside.client c.self.inside.links.entries (Some c.in-Some.links.now) (sym c.self.view_is)
+    (sym c.in-Some.ensures.value) (c.left_next.new.links, c.left_next.ensures, lent c.self.inside.links.entries _ c.args.session c.in-Some.links.now c.left_next.new.links (sym c.in-Some.ensures.value) (c.get_mut.follows.holds c.left_next.new.links))

@@ -29,7 +29,7 @@ returns-in-Done g c = record {
       (λ a. DisposesStream g.R.LinkRelay.gives c.args.stream.now c.self.inside.session.0 c.args.role c.args.first c.args.last c.args.settled
       (state_of c.args.outcome) (Some a) c.dispose.new.self)
       c.in-Done.is c.in_ok-asked.ensures);
-  then = (c.let_go.result, refl, c.let_go.ensures);
+  then = (c.let_go_if.result, refl, c.let_go_if.ensures);
 }
 
 pub returns-in_default : goal.returns-in_default
