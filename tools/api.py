@@ -36,7 +36,7 @@ from reference.wrapper import Wrapper
 from shared.command import command
 
 ROOT = Path(__file__).resolve().parent.parent
-HEADER, PACKAGE, WRAPPER = ROOT / "include" / "amqp1", ROOT / "bindings" / "python" / "amqp_engine", ROOT / "bindings" / "rust"
+HEADER, PACKAGE, WRAPPER = ROOT / "include" / "amqp1", ROOT / "bindings" / "python" / "amqp_engine", ROOT / "bindings" / "rust" / "src"
 RUST = re.compile(r"(?<![\w'])[A-Za-z_]\w*")
 GROUPS = [("struct", "Structs"), ("enum", "Enums"), ("trait", "Traits"), ("fn", "Functions"), ("const", "Constants"), ("type", "Names of types")]
 
@@ -295,7 +295,7 @@ class Bindings:
 OTHERS = """<h2>For C, Python and Rust</h2>
 <table><tr><td><a href="c.html"><code>amqp1.h</code></a></td><td>The functions, types and constants of <code>libamqp1</code>. Each function has a man page: see <code>man3</code>.</td></tr>
 <tr><td><a href="python.html"><code>amqp_engine</code></a></td><td>The package for Python.</td></tr>
-<tr><td><a href="rust.html"><code>amqp_engine.rs</code></a></td><td>The wrapper for Rust.</td></tr></table>"""
+<tr><td><a href="rust.html"><code>amqp_engine</code></a></td><td>The crate for Rust.</td></tr></table>"""
 
 
 def index(names, bindings):

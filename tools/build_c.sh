@@ -1,6 +1,6 @@
 #!/usr/bin/env bash
 # Builds the library for C and puts it, its headers, its files for pkg-config and CMake and its man pages under a folder: lib/libamqp1.a, lib/libamqp1.so.1,
-# include/amqp1.h, include/amqp1/, lib/pkgconfig/amqp1.pc, lib/cmake/amqp1/, share/man/man3/ (man -M OUT/share/man amqp1_take).
+# include/amqp1.h, include/amqp1.hpp, include/amqp1/, lib/pkgconfig/amqp1.pc, lib/cmake/amqp1/, share/man/man3/ (man -M OUT/share/man amqp1_take).
 # It has `rt lib` prove and compile crates/amqp1, and joins that with the few C functions of the kit by which the library asks for memory, and with the
 # functions of its headers, by include/amqp1/library.c. The files work where the folder is moved to. What was linked is printed.
 #
@@ -48,8 +48,8 @@ library_of() {
     cc -shared -o "$out/lib/lib$name.so.$version" -Wl,-soname,"$soname" -Wl,--gc-sections -Wl,-z,defs "$@"
     ln -sf "lib$name.so.$version" "$out/lib/$soname"
     ln -sf "$soname" "$out/lib/lib$name.so"
-    cp "include/$name.h" "$out/include/"
-    cp "include/$name"/*.h "$out/include/$name/"
+    cp "include/$name".{h,hpp} "$out/include/"
+    cp "include/$name"/*.{h,hpp} "$out/include/$name/"
     cat >"$out/lib/pkgconfig/$name.pc" <<END_OF_FILE
 prefix=\${pcfiledir}/../..
 libdir=\${prefix}/lib

@@ -21,7 +21,7 @@ PAGE = ROOT / "CONTRIBUTING.md"
 BLOCK = re.compile(r"(```text\n\$ tools/touches\.py --places (\S+)\n).*?(```\n)", re.DOTALL)
 # the kinds, in the order in which they are shown: the first pattern that a path fits says which one it is
 KINDS = {
-    "tests": r"crates/test_.*|tools/(try_c|hostile)/.*|.*/\w+_tests\.rs",
+    "tests": r"crates/test_.*|tools/(try_c|hostile)/.*|bindings/rust/tests/.*",
     "rows": r"crates/rows_.*|crates/\w+/std(in|out)|captures/.*",
     "programs": r"crates/(example|bench)_.*|examples/.*",
     "src": r"crates/.*/src/.*",

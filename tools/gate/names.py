@@ -26,7 +26,7 @@ CODE = ("crates/", "tools/", "include/", "bindings/", "examples/", ".ci/")
 # What no tool or compiler reads as code: the rows of programs, and pages.
 DATA = re.compile(r".*/(stdin|stdout)|.*\.(md|jsonl|rows|txt)")
 # Folders that are no part of the tree: what git, the kit and Python leave.
-LEFT = {".git", "out", "__pycache__"}
+LEFT = {".git", "out", "__pycache__", "target"}
 # What a page may name that the tree has not, with the reason.
 ALLOWED = {
     # it went: the line tells of that

@@ -14,7 +14,7 @@ FILES = {"C": "c.html", "Python": "python.html", "Rust": "rust.html"}
 INTRO = {
     "C": ("amqp1.h", "The library for C, <code>libamqp1</code>. <code>docs/BINDINGS.md</code> says how it is built and used."),
     "Python": ("amqp_engine, for Python", "The package in <code>bindings/python</code>, over the library for C. <code>docs/BINDINGS.md</code> says how it is used."),
-    "Rust": ("amqp_engine, for Rust", "The wrapper in <code>bindings/rust</code>, over the library for C. <code>docs/BINDINGS.md</code> says how it is used."),
+    "Rust": ("amqp_engine, for Rust", "The crate in <code>bindings/rust</code>, over the library for C. <code>docs/BINDINGS.md</code> says how it is used."),
 }
 # What stands in a list below what it is in, and what has a place of its own
 LAST = ("constant", "const", "macro")

@@ -1,6 +1,6 @@
 #!/usr/bin/env bash
 # Tries libamqp1: the tests tools/try_c/amqp1_*.c as C99, C11, C17 and C++17, by gcc and by clang where that is there, over the archive and over the
-# shared library, with every recorded connection; under the sanitizers of addresses and of undefined behaviour, and under valgrind; any bytes, by
+# shared library, with every recorded connection; amqp1.hpp, with exceptions and without; under the sanitizers of addresses and of undefined behaviour, and under valgrind; any bytes, by
 # libFuzzer; the library opened from Python; pkg-config, CMake and the man pages; and the examples with one another, and with qpid-proton. What is not tried here for
 # want of a program is named, a line each. The last line is 'N passed, M failed'.
 #
@@ -28,6 +28,13 @@ built_and_run() {
     $compiler "${strict[@]}" "$@" -o "$folder/tests" && timeout 600 "$folder/tests" "${recorded[@]}" ${cuts:+"$cuts"}
 }
 
+# The tests of amqp1.hpp by a compiler, with what comes after it.
+cpp_built_and_run() {
+    local compiler=$1
+    shift
+    $compiler "${strict[@]}" "$@" tools/try_c/cpp_{try,views,links}.cpp "$library/libamqp1.a" -o "$folder/cpp_tests" && timeout 120 "$folder/cpp_tests"
+}
+
 # A program with a warning for each cast of the old form, and with each standard of C++: the headers warn of nothing.
 as_cpp() {
     printf '#include <amqp1.h>\nint main() { amqp1 place = AMQP1_EMPTY; amqp1_free(&place); return 0; }\n' >"$folder/as.cpp"
@@ -38,7 +45,9 @@ as_cpp() {
 
 by_pkg_config() {
     printf '#include <amqp1.h>\nint main(void) { return amqp1_version() != AMQP1_VERSION_NUMBER; }\n' >"$folder/as.c"
-    cc "$folder/as.c" $(PKG_CONFIG_PATH=$library/pkgconfig pkg-config --cflags --libs amqp1) -Wl,-rpath,"$library" -o "$folder/as_c" && "$folder/as_c"
+    cc "$folder/as.c" $(PKG_CONFIG_PATH=$library/pkgconfig pkg-config --cflags --libs amqp1) -Wl,-rpath,"$library" -o "$folder/as_c" && "$folder/as_c" &&
+        printf '#include <amqp1.hpp>\nint main() { return amqp::nothrow::engine::version() != AMQP1_VERSION_NUMBER; }\n' >"$folder/as.cpp" &&
+        c++ -std=c++17 "$folder/as.cpp" $(PKG_CONFIG_PATH=$library/pkgconfig pkg-config --cflags --libs amqp1) -Wl,-rpath,"$library" -o "$folder/as_cpp" && "$folder/as_cpp"
 }
 
 by_cmake() {
@@ -101,6 +110,30 @@ examples() {
         done
 }
 
+# The examples in C++.
+cpp_examples() {
+    local it
+    for it in send receive request reply; do
+        c++ -std=c++17 "${strict[@]}" "${sanitized[@]}" "examples/cpp/$it.cpp" examples/cpp/client.cpp "$library/libamqp1.a" -o "$folder/cpp_$it" || return 1
+        [ "$(grep -v -e '^//' -e '^#include' "examples/cpp/$it.cpp" | grep -c .)" -le 40 ] || { echo "$it.cpp" && return 1; }
+    done
+}
+
+# They serve one another by the server in C: messages there and back, then requests and replies. The look whether it listens is a client too.
+cpp_served() {
+    local port=$1 server replies
+    timeout 60 "$folder/server" "$port" 5 >"$folder/server.log" 2>&1 &
+    server=$!
+    for _ in $(seq 50); do
+        ! (: <"/dev/tcp/127.0.0.1/$port") 2>"$folder/none" || break
+        sleep 0.1
+    done
+    timeout 60 "$folder/cpp_send" 127.0.0.1 "$port" q 500 && timeout 60 "$folder/cpp_receive" 127.0.0.1 "$port" q 500 || return 1
+    timeout 60 "$folder/cpp_reply" 127.0.0.1 "$port" r 500 &
+    replies=$!
+    timeout 60 "$folder/cpp_request" 127.0.0.1 "$port" r 500 && wait "$replies" && wait "$server" && [ ! -s "$folder/server.log" ]
+}
+
 # The smallest examples have at most 25 lines of code: without what stands before the first line of it, and empty lines.
 are_short() {
     for it in sender receiver; do
@@ -110,14 +143,14 @@ are_short() {
 
 # The listener lets one client in by PLAIN, and one by ANONYMOUS. Whether it listens is looked up, since each that connects is a client.
 logged_in() {
-    local port=$1 wait
+    local port=$1 send=$2 receive=$3 wait
     timeout 60 "$folder/listener" "$port" 2 me secret >"$folder/listened" &
     wait=$!
     for _ in $(seq 50); do
         ! grep -qi ":$(printf %04X "$port") 00000000:0000 0A" /proc/net/tcp || break
         sleep 0.1
     done
-    timeout 60 "$folder/sender" 127.0.0.1 "$port" q 50 me secret && timeout 60 "$folder/receiver" 127.0.0.1 "$port" q 50 && wait "$wait" &&
+    timeout 60 "$folder/$send" 127.0.0.1 "$port" q 50 me secret && timeout 60 "$folder/$receive" 127.0.0.1 "$port" q 50 && wait "$wait" &&
         [ "$(cat "$folder/listened")" = $'let in by PLAIN\nlet in by ANONYMOUS' ]
 }
 
@@ -153,6 +186,15 @@ for compiler in gcc clang; do
         cuts=each counts "$compiler, sanitized" built_and_run $compiler -std=c99 "${sanitized[@]}" "${tests[@]}" "$library/libamqp1.a"
     fi
 done
+for compiler in g++ clang++; do
+    if has $compiler "amqp1.hpp by it"; then
+        for standard in c++17 c++20; do
+            counts "$compiler, amqp1.hpp as $standard" cpp_built_and_run $compiler -std=$standard
+            counts "$compiler, amqp1.hpp as $standard without exceptions" cpp_built_and_run $compiler -std=$standard -fno-exceptions
+        done
+        counts "$compiler, amqp1.hpp sanitized" cpp_built_and_run $compiler -std=c++17 "${sanitized[@]}"
+    fi
+done
 counts "over libamqp1.so" built_and_run cc -std=c99 "${tests[@]}" -L"$library" -lamqp1 -Wl,-rpath,"$library"
 holds "the headers in C++ of each standard" as_cpp
 if has valgrind "all tests in C but the recordings, under valgrind"; then
@@ -174,7 +216,10 @@ holds "the examples" examples
 holds "25 lines of code of each of the smallest" are_short
 holds "an hour of idle connections" idled
 holds "500 messages each way, between the examples" served $port "$folder/server $port 2" "$folder/send 127.0.0.1 $port q 500"
-holds "50 messages each way by PLAIN and by ANONYMOUS, between the small examples" logged_in $((port += 1))
+holds "50 messages each way by PLAIN and by ANONYMOUS, between the small examples" logged_in $((port += 1)) sender receiver
+holds "the examples in C++, of at most 40 lines of code each" cpp_examples
+holds "500 messages and 500 requests, between the examples in C++" cpp_served $((port += 1))
+holds "50 messages each way by PLAIN and by ANONYMOUS, of the examples in C++" logged_in $((port += 1)) cpp_send cpp_receive
 proton=(/usr/bin/python3 tools/try_c/amqp1_proton.py)
 if "${proton[0]}" -c 'import proton' 2>"$folder/said"; then
     holds "500 messages each way, of a client of qpid-proton" served $((port += 1)) "$folder/server $port 2" "${proton[*]} client $port 500"

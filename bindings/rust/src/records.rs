@@ -1,16 +1,17 @@
-//! Records of received frames, and heads of transfers, as the library lays them out; and why a call took no more of them.
+//! Records of received frames, and heads of transfers, as the library lays them out; and why a call took no more of
+//! them.
 
-use super::Error;
+use crate::Error;
 
-/// What one received frame says: the layout is that of the library. A field of which the frame says nothing is 0; `session`, `output` and `input` are
-/// [`NONE`] then. `include/amqp1/records.h` says what each is.
+/// What one received frame says: the layout is that of the library. A field of which the frame says nothing is 0;
+/// `session`, `output` and `input` are [`NONE`] then. `include/amqp1/records.h` says what each is.
 #[derive(Clone, Copy, Debug, Default, PartialEq, Eq)]
 #[repr(C)]
 pub struct Record {
     /// One of [`kind`].
     pub kind: u8,
-    /// The state of deliveries: 0 none, 1 accepted, 2 rejected, 3 released, 4 modified, 5 received, 6 another. Of an attach its termini: 0 none, 1 a
-    /// source, 2 a target, 3 both.
+    /// The state of deliveries: 0 none, 1 accepted, 2 rejected, 3 released, 4 modified, 5 received, 6 another. Of an
+    /// attach its termini: 0 none, 1 a source, 2 a target, 3 both.
     pub outcome: u8,
     /// Those of [`flag`].
     pub flags: u16,
@@ -20,9 +21,11 @@ pub struct Record {
     pub output: u32,
     /// The peer's handle of the link: of all calls `link_on` alone takes it.
     pub input: u32,
-    /// The number of the delivery; of a disposition the first one. Of an attach the low 32 bits of its max-message-size.
+    /// The number of the delivery; of a disposition the first one. Of an attach the low 32 bits of its
+    /// max-message-size.
     pub first: u32,
-    /// The number of the delivery; of a disposition the last one. Of an attach the high 32 bits of its max-message-size.
+    /// The number of the delivery; of a disposition the last one. Of an attach the high 32 bits of its
+    /// max-message-size.
     pub last: u32,
     /// The format of the message.
     pub format: u32,
@@ -32,7 +35,8 @@ pub struct Record {
     pub credit: u32,
     /// How many messages the sender of a flow has ready. Of an attach its rcv-settle-mode: 0 first, 1 second.
     pub available: u32,
-    /// Why the frame was refused, by its number ([`Engine::refusal_text`](super::Engine::refusal_text)). 0 where it was not.
+    /// Why the frame was refused, by its number ([`Engine::refusal_text`](crate::Engine::refusal_text)). 0 where it
+    /// was not.
     pub refusal: u32,
     at: u32,
     size: u32,
@@ -56,7 +60,7 @@ impl Record {
     }
 
     /// The frame behind its size, there too; none of a record of the opening.
-    pub(super) fn frame<'a>(&self, input: &'a [u8]) -> Option<&'a [u8]> {
+    pub(crate) fn frame<'a>(&self, input: &'a [u8]) -> Option<&'a [u8]> {
         let from = (self.at as usize).checked_sub(4)?;
         input.get(from..(self.at as usize).checked_add(self.size as usize)?)
     }
@@ -184,6 +188,52 @@ pub enum Role {
     Receiver = 1,
 }
 
+impl Role {
+    /// The other end.
+    pub fn other(self) -> Role {
+        if self == Role::Sender { Role::Receiver } else { Role::Sender }
+    }
+}
+
+/// The state of deliveries (AMQP 1.0 part 3, section 3.4).
+#[derive(Clone, Copy, Debug, Default, PartialEq, Eq)]
+pub enum Outcome {
+    /// None is said.
+    #[default]
+    NoState = 0,
+    /// They are accepted.
+    Accepted = 1,
+    /// They are rejected.
+    Rejected = 2,
+    /// They are given back as they came.
+    Released = 3,
+    /// They are given back changed.
+    Modified = 4,
+    /// They have come in part.
+    Received = 5,
+    /// Any other one, or one that is described by a name.
+    Other = 6,
+}
+
+impl Outcome {
+    /// The one that a record tells.
+    pub fn of(number: u8) -> Outcome {
+        use Outcome::*;
+        [NoState, Accepted, Rejected, Released, Modified, Received].get(usize::from(number)).copied().unwrap_or(Other)
+    }
+}
+
+/// How the sending end of a link settles (section 2.8.2).
+#[derive(Clone, Copy, Debug, PartialEq, Eq)]
+pub enum SenderSettleMode {
+    /// It sends all deliveries unsettled.
+    Unsettled = 0,
+    /// It sends all of them settled.
+    Settled = 1,
+    /// Each delivery says it.
+    Mixed = 2,
+}
+
 /// How the receiving end of a link settles.
 #[derive(Clone, Copy, Debug, PartialEq, Eq)]
 pub enum ReceiverSettleMode {
@@ -203,7 +253,8 @@ pub struct TransferHead {
     pub link: u32,
     /// The format of the message, where `FORMATTED` is set.
     pub format: u32,
-    /// How many bytes the payload has. Where they do not fit one frame, [`Engine::cut`](super::Engine::cut) makes the heads of parts.
+    /// How many bytes the payload has. Where they do not fit one frame, [`Engine::cut`](crate::Engine::cut) makes the
+    /// heads of parts.
     pub payload: u32,
     /// `NUMBERED` for the first transfer of a delivery, `SETTLED`, `MORE`, `ABORTED`, `FORMATTED`, `TAGGED`.
     pub flags: u16,
@@ -217,7 +268,8 @@ pub struct TransferHead {
 pub struct Sent {
     /// The number of the delivery, also while the session holds it back; 0 of a later transfer, and of a refused one.
     pub number: u32,
-    /// Why it was refused, by its number ([`Engine::refusal_text`](super::Engine::refusal_text)); 0 where it was accepted.
+    /// Why it was refused, by its number ([`Engine::refusal_text`](crate::Engine::refusal_text)); 0 where it was
+    /// accepted.
     pub refusal: u32,
 }
 
@@ -231,8 +283,8 @@ pub struct Cut {
     pub rest: TransferHead,
     /// 1 where something is left; else 0.
     pub more: u32,
-    /// Why it cannot be sent: 91 where no frame has room for the transfer, or for a byte of payload beside it, and 92 where the tag has more than 32
-    /// bytes. Else 0.
+    /// Why it cannot be sent: 91 where no frame has room for the transfer, or for a byte of payload beside it, and 92
+    /// where the tag has more than 32 bytes. Else 0.
     pub refusal: u32,
 }
 
@@ -243,7 +295,8 @@ pub enum Stop {
     Done { wanted: usize },
     /// There is no room for what is to be said of the next one.
     Full,
-    /// A size stands there that no frame may have: a Close waits to be sent, for `amqp:connection:framing-error`, and the connection is over.
+    /// A size stands there that no frame may have: a Close waits to be sent, for `amqp:connection:framing-error`, and
+    /// the connection is over.
     BadSize,
     /// The bytes end before those of the next transfer do.
     Short,
@@ -260,7 +313,7 @@ pub enum Stop {
 }
 
 /// The reason of this status.
-pub(super) fn stop(status: i32, wanted: usize) -> Result<Stop, Error> {
+pub(crate) fn stop(status: i32, wanted: usize) -> Result<Stop, Error> {
     match status {
         0 => Ok(Stop::Done { wanted }),
         2 => Ok(Stop::NoMemory),

@@ -1,6 +1,6 @@
 //! Tests of the wrapper: a client's connection, with a script in the peer's place.
 
-use super::*;
+use amqp_engine::*;
 
 const OPEN: &[u8] = b"\0\x53\x10\xc0\x0e\x04\xa1\x02me\x40\x70\0\x01\0\0\x60\0\xff";
 const BEGIN: &[u8] = b"\0\x53\x11\xc0\x09\x05\x40\x43\x52\x40\x52\x40\x52\xff";
@@ -40,7 +40,10 @@ fn sending() -> Engine {
     assert_eq!(hear(&mut engine, 3, b"\0\x53\x11\xc0\x09\x04\x60\0\0\x43\x52\x0a\x52\x0a").0.session, 7);
     assert_eq!(engine.link(7, Role::Sender, ReceiverSettleMode::First, "out").unwrap(), 0);
     let (record, input) = hear(&mut engine, 3, ATTACH);
-    assert_eq!((record.kind, record.session, record.input, record.output, record.performative(&input)), (kind::ATTACHED, 7, 5, 0, ATTACH));
+    assert_eq!(
+        (record.kind, record.session, record.input, record.output, record.performative(&input)),
+        (kind::ATTACHED, 7, 5, 0, ATTACH)
+    );
     // no termini, no limit, and the modes that it does not say: mixed and first
     assert_eq!((record.outcome, record.first, record.last, record.credit, record.available), (0, 0, 0, 2, 0));
     sent(&mut engine);
@@ -82,7 +85,8 @@ fn a_payload_is_never_the_performative() {
     assert_eq!(sent(&mut engine), b"");
 }
 
-/// Whether a transfer on this handle is taken; else it is refused, since no attached link has the handle, and nothing goes out.
+/// Whether a transfer on this handle is taken; else it is refused, since no attached link has the handle, and nothing
+/// goes out.
 fn is_taken(engine: &mut Engine, handle: u8) -> bool {
     let transfer = [&b"\0\x53\x14\xc0\x09\x05\x52"[..], &[handle], b"\x40\xa0\x01t\x43\x42"].concat();
     match engine.transfer(7, true, &transfer, b"hello") {
@@ -96,8 +100,9 @@ fn is_taken(engine: &mut Engine, handle: u8) -> bool {
 fn an_attach_tells_its_terms() {
     let mut engine = sending();
     assert_eq!(engine.link(7, Role::Sender, ReceiverSettleMode::First, "b").unwrap(), 1);
-    let attach = b"\0\x53\x12\xc0\x1e\x0b\xa1\x01b\x43\x41\x50\x01\x50\x01\0\x53\x28\x45\0\x53\x29\x45\x40\x40\x40\x80\0\0\0\x05\0\0\0\x07";
-    let (record, _) = hear(&mut engine, 3, attach);
+    let attach = b"\0\x53\x12\xc0\x1e\x0b\xa1\x01b\x43\x41\x50\x01\x50\x01\0\x53\x28\x45\0\x53\x29\x45\x40\x40\x40";
+    let limit = b"\x80\0\0\0\x05\0\0\0\x07";
+    let (record, _) = hear(&mut engine, 3, &[&attach[..], limit].concat());
     assert_eq!((record.kind, record.output, record.outcome), (kind::ATTACHED, 1, 3));
     assert_eq!((record.first, record.last, record.credit, record.available), (7, 5, 1, 1));
 }
@@ -122,7 +127,8 @@ fn a_transfer_is_of_an_attached_link() {
 #[test]
 fn transfers_go_by_their_heads() {
     let mut engine = sending();
-    let head = TransferHead { session: 7, link: 0, format: 0, payload: 5, flags: flag::NUMBERED | flag::TAGGED, tag_size: 1 };
+    let head =
+        TransferHead { session: 7, link: 0, format: 0, payload: 5, flags: flag::NUMBERED | flag::TAGGED, tag_size: 1 };
     let (other, mut sent_as) = (TransferHead { link: 5, ..head }, [Sent::default(); 3]);
     let told = engine.transfers(&[head, other, head, head], b"thelloxhellouhello", &mut sent_as).unwrap();
     assert_eq!(told, (3, 18, Stop::Full));
@@ -130,8 +136,8 @@ fn transfers_go_by_their_heads() {
     assert_eq!(engine.refusal_text(61).unwrap(), ("UnattachedHandle".into(), "amqp:session:unattached-handle".into()));
     assert_eq!(engine.transfers(&[head], b"th", &mut sent_as).unwrap(), (0, 0, Stop::Short));
     assert!(sent(&mut engine).ends_with(b"hello"));
-    engine.dispose(7, Role::Sender, 0, 1, true, 0).unwrap();
-    assert_eq!(engine.dispose(7, Role::Sender, 0, 1, true, 9), Err(Error::BadArgument));
+    engine.dispose(7, Role::Sender, 0, 1, true, Outcome::NoState).unwrap();
+    assert_eq!(engine.dispose(7, Role::Sender, 0, 1, true, Outcome::Other), Err(Error::BadArgument));
     assert_eq!(sent(&mut engine), framed(0, b"\0\x53\x15\xc0\x06\x04\x42\x43\x52\x01\x41"));
 }
 
@@ -149,7 +155,7 @@ fn parts_of(engine: &mut Engine, head: TransferHead, bytes: &[u8]) -> Vec<Transf
 
 #[test]
 fn a_long_transfer_goes_in_parts() {
-    assert_eq!((size_of::<Cut>(), std::mem::offset_of!(Cut, rest), std::mem::offset_of!(Cut, more)), (48, 20, 40));
+    assert_eq!((size_of::<Cut>(), core::mem::offset_of!(Cut, rest), core::mem::offset_of!(Cut, more)), (48, 20, 40));
     let mut engine = sending();
     let bytes: Vec<u8> = (0..2501_u32).map(|at| at as u8 ^ (at >> 8) as u8).collect();
     let first = flag::NUMBERED | flag::TAGGED | flag::SETTLED | flag::ABORTED;
@@ -157,7 +163,10 @@ fn a_long_transfer_goes_in_parts() {
     let parts = parts_of(&mut engine, head, &bytes[..1]);
     let wanted = [first - flag::ABORTED + flag::MORE, flag::MORE, flag::ABORTED];
     assert_eq!(parts.iter().map(|it| it.flags).collect::<Vec<_>>(), wanted);
-    assert_eq!(parts.iter().map(|it| (it.session, it.link, it.tag_size)).collect::<Vec<_>>(), [(7, 0, 1), (7, 0, 0), (7, 0, 0)]);
+    assert_eq!(
+        parts.iter().map(|it| (it.session, it.link, it.tag_size)).collect::<Vec<_>>(),
+        [(7, 0, 1), (7, 0, 0), (7, 0, 0)]
+    );
     assert_eq!(parts.iter().map(|it| it.payload).sum::<u32>(), 2500);
     let mut at = 0;
     for (count, part) in parts.iter().enumerate() {
@@ -176,7 +185,14 @@ fn a_long_transfer_goes_in_parts() {
 fn what_fits_is_not_cut_and_what_never_fits_is_refused() {
     let mut engine = sending();
     let room = engine.payload_room(b"\0\x53\x14\xc0\x08\x05\x43\x40\xa0\x01t\x43\x42").unwrap().unwrap();
-    let head = TransferHead { session: 7, link: 0, format: 0, payload: room, flags: flag::NUMBERED | flag::TAGGED, tag_size: 1 };
+    let head = TransferHead {
+        session: 7,
+        link: 0,
+        format: 0,
+        payload: room,
+        flags: flag::NUMBERED | flag::TAGGED,
+        tag_size: 1,
+    };
     assert_eq!(engine.cut(&head, b"t").unwrap(), Cut { part: head, rest: head, more: 0, refusal: 0 });
     let longer = TransferHead { payload: room + 1, ..head };
     assert_eq!(parts_of(&mut engine, longer, b"t").iter().map(|it| it.payload).collect::<Vec<_>>(), [room - 1, 2]);
@@ -191,7 +207,10 @@ fn what_fits_is_not_cut_and_what_never_fits_is_refused() {
 #[test]
 fn what_came_is_told_in_order_and_in_place() {
     let mut engine = sending();
-    let (flow, end) = (framed(3, b"\0\x53\x13\xc0\x0c\x07\x43\x52\x40\x43\x52\x0a\x52\x05\x43\x52\x0a"), framed(3, b"\0\x53\x17\x45"));
+    let (flow, end) = (
+        framed(3, b"\0\x53\x13\xc0\x0c\x07\x43\x52\x40\x43\x52\x0a\x52\x05\x43\x52\x0a"),
+        framed(3, b"\0\x53\x17\x45"),
+    );
     let (input, mut records) = ([&flow[..], &end[..], &[0, 0]].concat(), [Record::default(); 1]);
     assert_eq!(engine.take(&input, &mut records).unwrap(), (flow.len(), 1, Stop::Full));
     assert_eq!((records[0].kind, records[0].output, records[0].credit), (kind::FLOW, 0, 10));
@@ -232,7 +251,8 @@ fn a_client_is_let_in_by_a_login_alone() {
     for code in [LoginCode::Ok, LoginCode::Auth] {
         let opening = Opening::Client { logins: &logins, host: Some("here") };
         let mut client = Engine::with_opening([7; 16], OPEN, &opening, 0, Some(1000)).unwrap();
-        let mut server = Engine::with_opening([8; 16], OPEN, &Opening::Server { mechanisms: &["PLAIN"] }, 0, None).unwrap();
+        let mut server =
+            Engine::with_opening([8; 16], OPEN, &Opening::Server { mechanisms: &["PLAIN"] }, 0, None).unwrap();
         assert!(matches!(server.login(code, None), Err(Error::Refused(_))));
         client.open().unwrap();
         let first = sent(&mut client);
@@ -243,7 +263,10 @@ fn a_client_is_let_in_by_a_login_alone() {
         told.extend(taken(&mut server, &said));
         // (the header of SASL came before, in bytes of its own)
         let asked = told.last().unwrap();
-        assert_eq!((asked.kind, asked.mechanism(&said), asked.payload(&said)), (kind::LOGIN_ASKED, &b"PLAIN"[..], &b"\0me\0secret"[..]));
+        assert_eq!(
+            (asked.kind, asked.mechanism(&said), asked.payload(&said)),
+            (kind::LOGIN_ASKED, &b"PLAIN"[..], &b"\0me\0secret"[..])
+        );
         assert_eq!((asked.has_payload(), asked.host(&said)), (true, Some(&b"here"[..])));
         assert_eq!(server.take_at(10, b"AMQP", &mut [Record::default()]).unwrap().2, Stop::Waits);
         server.login(code, None).unwrap();

@@ -1,6 +1,7 @@
 //! Why a call did not do what was asked.
 
-use std::fmt;
+use alloc::string::String;
+use core::fmt;
 
 /// Why a call did not do what was asked.
 #[derive(Clone, Debug, PartialEq, Eq)]
@@ -11,7 +12,8 @@ pub enum Error {
     NoMemory,
     /// The input is none of this operation's, as a performative that is another one.
     BadArgument,
-    /// Memory was refused once the engine had begun a session in answer to the peer's: its number is used, and the peer has no answer.
+    /// Memory was refused once the engine had begun a session in answer to the peer's: its number is used, and the peer
+    /// has no answer.
     Lost,
     /// Memory was refused for the peer's Begin, once this side's was sent: the connection is to be closed.
     Broken,
@@ -19,7 +21,8 @@ pub enum Error {
     NotDetached,
     /// A link is not taken away: deliveries of it are unsettled.
     Unsettled,
-    /// The number of a delivery that begins does not lie after each one that is unsettled, by less than 2^31 (AMQP 1.0 part 2, section 2.8.10).
+    /// The number of a delivery that begins does not lie after each one that is unsettled, by less than 2^31 (AMQP 1.0
+    /// part 2, section 2.8.10).
     NotNext,
     /// No handle is allotted to the name, or no link has the handle.
     NoLink,
@@ -44,7 +47,7 @@ pub struct Refusal {
 
 impl Error {
     /// The error of a status that has no refusal beside it.
-    pub(super) fn of(status: i32) -> Error {
+    pub(crate) fn of(status: i32) -> Error {
         match status {
             2 => Error::NoMemory,
             4 => Error::BadArgument,
@@ -80,4 +83,4 @@ impl fmt::Display for Error {
     }
 }
 
-impl std::error::Error for Error {}
+impl core::error::Error for Error {}

@@ -1,8 +1,9 @@
 //! What records are to the links of their sessions (AMQP 1.0 part 2, sections 2.6 and 2.7).
 
-use super::Role;
+use crate::Role;
 
-/// What a record is to the links of its session: the layout is that of the library. A field of which nothing is said is 0.
+/// What a record is to the links of its session: the layout is that of the library. A field of which nothing is said is
+/// 0.
 #[derive(Clone, Copy, Debug, Default, PartialEq, Eq)]
 #[repr(C)]
 pub struct Event {
@@ -11,7 +12,7 @@ pub struct Event {
     /// The session.
     pub session: u32,
     kind: u32,
-    /// The link, by this side's handle. [`NONE`](super::NONE) where it is of none, as where deliveries are settled.
+    /// The link, by this side's handle. [`NONE`](crate::NONE) where it is of none, as where deliveries are settled.
     pub link: u32,
     first: u32,
     last: u32,
@@ -21,7 +22,9 @@ pub struct Event {
     flags: u32,
 }
 
-const _: () = assert!(size_of::<Event>() == 48 && std::mem::offset_of!(Event, kind) == 20 && std::mem::offset_of!(Event, flags) == 44);
+const _: () = assert!(
+    size_of::<Event>() == 48 && core::mem::offset_of!(Event, kind) == 20 && core::mem::offset_of!(Event, flags) == 44
+);
 
 /// What an event is.
 #[derive(Clone, Copy, Debug, PartialEq, Eq)]
@@ -36,14 +39,17 @@ pub enum EventKind {
     Part(Part),
     /// A transfer on a link that is not attached has come: it is passed over (section 2.6.6).
     PassedOver,
-    /// The peer did what it may not do: this side ends the link for it, by [`Engine::link_respond`](super::Engine::link_respond).
+    /// The peer did what it may not do: this side ends the link for it, by
+    /// [`Engine::link_respond`](crate::Engine::link_respond).
     Fault(Fault),
-    /// The deliveries from `first` to `last` are settled: [`Engine::link_settled`](super::Engine::link_settled) gives each of them back. `role` is this side's.
+    /// The deliveries from `first` to `last` are settled: [`Engine::link_settled`](crate::Engine::link_settled) gives
+    /// each of them back. `role` is this side's.
     /// `by_peer`: the peer has settled them; else this side has, in answer to a terminal outcome.
     Settled { role: Role, first: u32, last: u32, by_peer: bool },
     /// The peer's Detach has come. `for_good`: it closes the link (section 2.6.6).
     Ended { end: LinkEnd, for_good: bool },
-    /// A call of the link was answered `HeldBack`, and may be made again: [`Engine::link_due`](super::Engine::link_due) tells it.
+    /// A call of the link was answered `HeldBack`, and may be made again:
+    /// [`Engine::link_due`](crate::Engine::link_due) tells it.
     Due,
     /// An event of a later version: pass over it.
     Other(u32),
@@ -73,7 +79,8 @@ pub struct Part {
 pub enum Life {
     /// This side's Attach is sent, or is to be, and the peer's has not come.
     Attaching = 0,
-    /// The peer's has come without the terminus of its own: it refuses the link, and its Detach follows (section 2.6.3).
+    /// The peer's has come without the terminus of its own: it refuses the link, and its Detach follows (section
+    /// 2.6.3).
     Refused = 1,
     /// Both have attached.
     Attached = 2,
@@ -127,12 +134,17 @@ impl Event {
         use {Fault::*, Life as L, LinkEnd as E};
         Some(match self.kind {
             0 => EventKind::Nothing,
-            1 => EventKind::Attached(one(&[L::Attaching, L::Refused, L::Attached, L::Detaching, L::Detached], 0, self.detail)?),
+            1 => EventKind::Attached(one(
+                &[L::Attaching, L::Refused, L::Attached, L::Detaching, L::Detached],
+                0,
+                self.detail,
+            )?),
             2 => EventKind::Flow { used: self.detail },
             3 => EventKind::Part(self.part()),
             4 => EventKind::PassedOver,
             5 => {
-                let all = [OverCredit, CountPastLimit, NoneUnderWay, NoNumber, NoTag, OtherDelivery, OtherFormat, TooLarge];
+                let all =
+                    [OverCredit, CountPastLimit, NoneUnderWay, NoNumber, NoTag, OtherDelivery, OtherFormat, TooLarge];
                 EventKind::Fault(one(&all, 1, self.detail)?)
             }
             6 => {
@@ -166,6 +178,6 @@ impl Event {
 }
 
 /// The one of these that has this number, from the first one's on.
-pub(super) fn one<T: Copy>(of: &[T], first: u32, number: u32) -> Option<T> {
+pub(crate) fn one<T: Copy>(of: &[T], first: u32, number: u32) -> Option<T> {
     of.get(number.checked_sub(first)? as usize).copied()
 }

@@ -1,6 +1,6 @@
 //! Tests of links with credit: two engines, face to face.
 
-use super::*;
+use amqp_engine::*;
 
 const OPEN: &[u8] = b"\0\x53\x10\xc0\x05\x01\xa1\x02me";
 const BEGIN: &[u8] = b"\0\x53\x11\xc0\x09\x05\x40\x43\x52\x40\x52\x40\x52\xff";
@@ -51,13 +51,17 @@ fn carry(from: &mut Engine, to: &mut Engine) -> Vec<Came> {
 
 impl Pair {
     fn new() -> Pair {
-        let mut pair = Pair { client: Engine::new([7; 16], OPEN).unwrap(), server: Engine::new([8; 16], OPEN).unwrap() };
+        let mut pair =
+            Pair { client: Engine::new([7; 16], OPEN).unwrap(), server: Engine::new([8; 16], OPEN).unwrap() };
         pair.client.open().unwrap();
         pair.server.open().unwrap();
         pair.client.begin(CLIENT, BEGIN).unwrap();
         pair.there();
         pair.back();
-        assert_eq!((pair.client.session_state(CLIENT).unwrap(), pair.server.session_state(SERVER).unwrap()), (Some(3), Some(3)));
+        assert_eq!(
+            (pair.client.session_state(CLIENT).unwrap(), pair.server.session_state(SERVER).unwrap()),
+            (Some(3), Some(3))
+        );
         pair
     }
 
@@ -85,7 +89,14 @@ impl Pair {
     }
 
     fn send(&mut self, link: u32, payload: &str, flags: u16) -> Result<Told, NotSent> {
-        let head = TransferHead { session: CLIENT, link, format: 0, payload: payload.len() as u32, flags: flags | flag::TAGGED, tag_size: 1 };
+        let head = TransferHead {
+            session: CLIENT,
+            link,
+            format: 0,
+            payload: payload.len() as u32,
+            flags: flags | flag::TAGGED,
+            tag_size: 1,
+        };
         self.client.link_send(&head, &[b"t", payload.as_bytes()].concat(), 70)
     }
 }
@@ -112,9 +123,12 @@ fn messages_go_by_credit_and_are_settled() {
     let came = pair.there();
     assert_eq!(kinds(&came), [EventKind::Part(whole(0)), EventKind::Part(Part { is_presettled: true, ..whole(1) })]);
     // the second one leaves fewer than 1
-    assert_eq!(came.iter().map(|it| (it.event.link, it.event.credit, it.responded)).collect::<Vec<_>>(), [(theirs, 1, false), (theirs, 0, true)]);
+    assert_eq!(
+        came.iter().map(|it| (it.event.link, it.event.credit, it.responded)).collect::<Vec<_>>(),
+        [(theirs, 1, false), (theirs, 0, true)]
+    );
     assert_eq!(pair.server.link_credit(SERVER, theirs), Ok(2));
-    assert_eq!(pair.server.link_settle(SERVER, Role::Receiver, 0, 1, true, 1), Ok(true));
+    assert_eq!(pair.server.link_settle(SERVER, Role::Receiver, 0, 1, true, Outcome::Accepted), Ok(true));
     let given = Unsettled { given: 90, number: 0, link: theirs };
     assert_eq!(pair.server.link_settled(SERVER, Role::Receiver, 0, 1), Ok(Some(given)));
     assert_eq!(pair.server.link_settled(SERVER, Role::Receiver, 0, 1), Ok(None));
@@ -122,7 +136,10 @@ fn messages_go_by_credit_and_are_settled() {
     let settled = EventKind::Settled { role: Role::Sender, first: 0, last: 1, by_peer: true };
     assert_eq!((kinds(&came), came[0].event.credit), (vec![EventKind::Flow { used: 0 }, settled], 2));
     assert_eq!((came[1].event.link, came[1].record.outcome), (NONE, 1));
-    assert_eq!(pair.client.link_settled(CLIENT, Role::Sender, 0, 1), Ok(Some(Unsettled { given: 70, number: 0, link: own })));
+    assert_eq!(
+        pair.client.link_settled(CLIENT, Role::Sender, 0, 1),
+        Ok(Some(Unsettled { given: 70, number: 0, link: own }))
+    );
     assert_eq!(pair.client.link_settled(CLIENT, Role::Sender, 0, 1), Ok(None));
 }
 
@@ -145,7 +162,10 @@ fn a_delivery_in_parts_takes_one_credit() {
     pair.send(own, "hello", flag::MORE).unwrap();
     assert_eq!(pair.send(own, "", flag::ABORTED), Ok(Told { number: 1, given: Some(70) }));
     let EventKind::Part(aborted) = pair.there()[1].event.kind() else { panic!() };
-    assert_eq!((aborted.number, aborted.is_last, aborted.is_aborted, aborted.is_presettled, aborted.given), (1, false, true, true, Some(91)));
+    assert_eq!(
+        (aborted.number, aborted.is_last, aborted.is_aborted, aborted.is_presettled, aborted.given),
+        (1, false, true, true, Some(91))
+    );
 }
 
 #[test]
@@ -211,7 +231,10 @@ fn what_is_unsettled_is_left_once_its_link_goes() {
     assert_eq!(kinds(&pair.there()), [EventKind::Ended { end: LinkEnd::ByPeer, for_good: false }]);
     assert_eq!(pair.server.link_remove(SERVER, theirs), Err(Error::Unsettled));
     let left: Vec<_> = std::iter::from_fn(|| pair.server.link_left(SERVER, theirs).unwrap()).collect();
-    assert_eq!(left.iter().map(|it| (it.given, it.number, it.link)).collect::<Vec<_>>(), [(90, 0, theirs), (91, 1, theirs)]);
+    assert_eq!(
+        left.iter().map(|it| (it.given, it.number, it.link)).collect::<Vec<_>>(),
+        [(90, 0, theirs), (91, 1, theirs)]
+    );
     pair.server.link_remove(SERVER, theirs).unwrap();
     assert_eq!(kinds(&pair.back()), [EventKind::Ended { end: LinkEnd::Answered, for_good: false }]);
     let left: Vec<_> = std::iter::from_fn(|| pair.client.link_left_of(CLIENT, Role::Sender).unwrap()).collect();
@@ -257,13 +280,13 @@ fn what_is_none_is_refused_of_links() {
     assert_eq!(pair.client.link_attach(CLIENT, BEGIN, 0, 0), Err(Error::BadArgument));
     assert_eq!(pair.client.link_attach(CLIENT, &attach("l", Role::Sender, 0), 0, 0), Err(Error::NoLink));
     assert_eq!(pair.client.link_remove(CLIENT, 0), Err(Error::NoLink));
-    assert_eq!(pair.client.link_settle(9, Role::Sender, 0, 0, true, 1), Ok(false));
+    assert_eq!(pair.client.link_settle(9, Role::Sender, 0, 0, true, Outcome::Accepted), Ok(false));
     assert_eq!(pair.client.link_detach(CLIENT, 0, true, None), Ok(false));
     assert_eq!(pair.send(0, "hello", 0), Err(NotSent::NoSender));
     let (own, _) = pair.attached(1, 2, 0);
     pair.back();
     assert_eq!(pair.client.link_attach(CLIENT, &attach("l", Role::Sender, 0), 0, 0), Err(Error::InUse));
-    assert_eq!(pair.client.link_settle(CLIENT, Role::Sender, 0, 0, true, 2), Err(Error::BadArgument));
+    assert_eq!(pair.client.link_settle(CLIENT, Role::Sender, 0, 0, true, Outcome::Rejected), Err(Error::BadArgument));
     let head = TransferHead { session: CLIENT, link: own, payload: 5, ..TransferHead::default() };
     assert_eq!(pair.client.link_send(&head, b"hell", 0), Err(NotSent::Short));
     let tagged = TransferHead { payload: 0, flags: flag::TAGGED, tag_size: 33, ..head };
@@ -272,4 +295,61 @@ fn what_is_none_is_refused_of_links() {
     pair.there();
     pair.back();
     assert_eq!(pair.send(own, "hello", 0), Err(NotSent::Over));
+}
+
+#[test]
+fn a_detach_waits_for_what_is_held_back() {
+    let mut pair = Pair::new();
+    // a session in which the server takes two transfers at a time, and a link whose name it marks
+    let (mine, its, mode) = (CLIENT + 1, SERVER + 1, ReceiverSettleMode::First);
+    pair.client.begin(mine, &Begin::default()).unwrap();
+    let mut bytes = Vec::new();
+    pair.client.send(&mut bytes).unwrap();
+    let mut records = [Record::default()];
+    pair.server.take(&bytes, &mut records).unwrap();
+    let window = Begin { incoming_window: 2, ..Begin::default() };
+    pair.server.answer_begin(&records[0], &bytes, its, &window).unwrap();
+    pair.back();
+    let own = pair.client.link(mine, Role::Sender, mode, "l").unwrap();
+    pair.client.link_attach(mine, &Attach::sender("l", "q"), 0, 0).unwrap();
+    let wanted = pair.there()[0].record;
+    let theirs = pair.server.link_on(its, wanted.input, Role::Receiver, mode, "marked l").unwrap();
+    let attach = Attach::receiver("l", "q");
+    assert_eq!(pair.server.link_attach(its, &attach, 1, 9), Err(Error::NoLink));
+    assert_eq!(pair.server.link_attach_under(its, "marked l", &attach, 1, 9), Ok(theirs));
+    let event = pair.server.link_wanted(&wanted, theirs).unwrap();
+    assert_eq!(pair.server.link_respond(&event, 0), Ok(true));
+    pair.back();
+    for number in 0..3 {
+        let flags = flag::TAGGED;
+        let head = TransferHead { session: mine, link: own, payload: 5, flags, tag_size: 1, ..TransferHead::default() };
+        assert_eq!(pair.client.link_send(&head, b"thello", 0), Ok(Told { number, given: None }));
+    }
+    assert_eq!(pair.client.link_detach(mine, own, true, None), Err(Error::HeldBack));
+    assert_eq!(pair.client.link_due(mine), Ok(None));
+    assert_eq!(pair.there().len(), 2);
+    pair.back();
+    let due = pair.client.link_due(mine).unwrap().unwrap();
+    assert_eq!((due.kind(), due.link, pair.client.link_due(mine)), (EventKind::Due, own, Ok(None)));
+    assert_eq!(pair.client.link_respond(&due, 0), Ok(false));
+    assert_eq!(pair.client.link_detach(mine, own, true, None), Ok(true));
+    let ended = EventKind::Ended { end: LinkEnd::ByPeer, for_good: true };
+    assert_eq!(kinds(&pair.there()), [EventKind::Part(whole(2)), ended]);
+}
+
+#[test]
+fn deliveries_are_rejected_by_a_disposition() {
+    let mut pair = Pair::new();
+    let (own, _) = pair.attached(1, 2, 0);
+    pair.back();
+    pair.send(own, "hello", 0).unwrap();
+    pair.there();
+    let rejected = Disposition { role: Role::Receiver, first: 0, last: 0, settled: true, outcome: Outcome::Rejected };
+    assert_eq!(pair.server.link_dispose(SERVER, &rejected), Ok(true));
+    assert_eq!(pair.server.link_dispose(SERVER, &Begin::default()), Err(Error::BadArgument));
+    let came = pair.back();
+    assert_eq!(kinds(&came), [EventKind::Settled { role: Role::Sender, first: 0, last: 0, by_peer: true }]);
+    assert_eq!(came[0].record.outcome, 2);
+    let settled = pair.client.link_settled(CLIENT, Role::Sender, 0, 0).unwrap().unwrap();
+    assert_eq!((settled.given, settled.link), (70, own));
 }
