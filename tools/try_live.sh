@@ -27,6 +27,41 @@ make_keys() {
     chmod a+rx . && chmod a+r ./*
 }
 
+# Builds the examples in C++.
+build_live_cpp() {
+    install g++ || return 1
+    local it
+    mkdir -p "$folder/cpp"
+    for it in send receive request reply; do
+        c++ -std=c++17 -O2 -I"$prefix/include" "examples/cpp/$it.cpp" examples/cpp/client.cpp "$prefix/lib/libamqp1.a" -o "$folder/cpp/$it" || return 1
+    done
+}
+
+# Builds those in Rust, where there is a cargo.
+build_live_rust() {
+    command -v cargo >/dev/null || { echo "not tried, since there is no cargo: the examples in Rust" && return; }
+    (cd bindings/rust && AMQP1_LIB_DIR=$prefix/lib CARGO_TARGET_DIR=$folder/cargo cargo build -q --offline --release --examples)
+}
+
+# Messages there and back, and then requests and replies, of these examples: where they are, NAME, the words that name the server and an address there,
+# how many these are, and the login.
+four_of() {
+    local at=$1 count=$3 replies
+    local server=("${@:4:count}") login=("${@:4+count}")
+    echo "the examples in $at with $2:"
+    at=$folder/$at
+    timeout 60 "$at/send" "${server[@]}" "$many" "${login[@]}" && timeout 60 "$at/receive" "${server[@]}" "$many" "${login[@]}" | tail -n 1 || return 1
+    timeout 60 "$at/reply" "${server[@]}" "$many" "${login[@]}" &
+    replies=$!
+    timeout 60 "$at/request" "${server[@]}" "$many" "${login[@]}" && wait "$replies"
+}
+
+# The examples in C++ and in Rust: NAME HOST PORT ADDRESS, and the login.
+try_live_examples() {
+    tried four_of cpp "$1" 3 "$2" "$3" "$4-cpp" "${@:5}"
+    [ ! -d "$folder/cargo" ] || tried four_of cargo/release/examples "$1" 2 "$2:$3" "$4-rust" "${@:5}"
+}
+
 # Has a program run with its bytes recorded under a name, where recordings are wanted.
 recorded() {
     local name=$1
@@ -131,14 +166,21 @@ with_server() {
 try_live_servers() {
     tried with_server proton-cpp "$folder/cpp_broker" -a 127.0.0.1:PORT
     try_live_windows proton-cpp 127.0.0.1 "$at_port" examples
+    try_live_examples proton-cpp 127.0.0.1 "$at_port" examples
+    tried client_in_python "amqp://127.0.0.1:$at_port/" client
+    tried asks_in_python "amqp://127.0.0.1:$at_port/"
     tried with_server proton-python /usr/bin/python3 "$proton_python/broker.py" -a 127.0.0.1:PORT
     try_live_windows proton-python 127.0.0.1 "$at_port" examples
+    try_live_examples proton-python 127.0.0.1 "$at_port" examples
+    tried client_in_python "amqp://127.0.0.1:$at_port/" client
+    tried asks_in_python "amqp://127.0.0.1:$at_port/"
 }
 
 try_live_rabbitmq() {
     tried there_and_back rmq-anonymous localhost "$rabbitmq" /queue/anonymous
     tried there_and_back rmq-plain localhost "$rabbitmq" /queue/plain guest guest
     tried there_and_back rmq-external localhost "$rabbitmq_tls" /queue/external "$keys/ca.pem" "$keys/guest.pem" "$keys/guest.key"
+    try_live_examples rmq-plain localhost "$rabbitmq" /queue/examples guest guest
     tried refused_by localhost "$rabbitmq" /queue/refused 1 guest another
     try_live_windows rmq localhost "$rabbitmq" /queue/windows guest guest
 }
@@ -163,5 +205,44 @@ try_live_uamqp() {
     for it in send receive; do
         tried listened "uamqp-amqp1-anonymous-$it" "let in by ANONYMOUS" "0 1" tls /usr/bin/python3 tools/try_uamqp.py "$it" PORT "$many" "$keys/ca.pem"
         tried listened "uamqp-amqp1-plain-$it" "let in by PLAIN" "0 1" tls /usr/bin/python3 tools/try_uamqp.py "$it" PORT "$many" "$keys/ca.pem" guest guest
+    done
+}
+
+# The broker in Python, with these words: it listens on `at_port` from then on.
+with_broker() {
+    at_port=$(free_port)
+    python3 examples/python/broker.py "$at_port" "$@" >"$folder/served.out" 2>&1 &
+    running+=($!)
+    await_listening "$at_port"
+}
+
+# A client of the broker: NAME, how many lines it is to print at least, its status, and its words.
+asked() {
+    local name=$1 lines=$2 status=$3 got=0
+    shift 3
+    timeout 60 "$@" >"$folder/client" 2>&1 || got=$?
+    echo "broker.py, $name: $(tail -n 1 "$folder/client")"
+    [ "$got" = "$status" ] && [ "$(wc -l <"$folder/client")" -ge "$lines" ] && return
+    echo "status $got" && cat "$folder/client" "$folder/served.out"
+    return 1
+}
+
+# Clients of the broker in Python, beside those of try_server.py: with a login, without one over TLS, and with one over TLS.
+try_live_served() {
+    local it at tls=(--tls "$keys/localhost.pem" "$keys/localhost.key")
+    tried with_broker --user guest:guest
+    at=127.0.0.1:$at_port/examples
+    tried asked "qpid-proton in C++, PLAIN, send" 1 0 "$folder/cpp_plain_simple_send" -m "$many" -a "$at" -u guest -p guest
+    tried asked "qpid-proton in C++, PLAIN, receive" "$many" 0 "$folder/cpp_plain_simple_recv" -m "$many" -a "$at" -u guest -p guest
+    tried asked "qpid-proton in C++, a wrong password" 1 1 "$folder/cpp_plain_simple_send" -m 1 -a "$at" -u guest -p another
+    tried asked "qpid-proton in Python, PLAIN, send" 1 0 /usr/bin/python3 "$proton_python/simple_send.py" -m "$many" -a "amqp://guest:guest@$at"
+    tried asked "qpid-proton in Python, PLAIN, receive" "$many" 0 /usr/bin/python3 "$proton_python/simple_recv.py" -m "$many" -a "amqp://guest:guest@$at"
+    tried with_broker --first "${tls[@]}"
+    for it in send receive; do
+        tried asked "uAMQP, ANONYMOUS over TLS, $it" 1 0 /usr/bin/python3 tools/try_uamqp.py "$it" "$at_port" "$many" "$keys/ca.pem"
+    done
+    tried with_broker --first --user guest:guest "${tls[@]}"
+    for it in send receive; do
+        tried asked "uAMQP, PLAIN over TLS, $it" 1 0 /usr/bin/python3 tools/try_uamqp.py "$it" "$at_port" "$many" "$keys/ca.pem" guest guest
     done
 }

@@ -1,8 +1,6 @@
 """Frames that no good peer writes, given to engines in memory: each is a refusal in its place, and what stands after it is read."""
 
-import asyncio
 import random
-import sys
 from dataclasses import replace
 
 from amqp_engine import (
@@ -10,13 +8,8 @@ from amqp_engine import (
     Server, SessionBegan, Symbol, Transfer, Transferred, Ulong, data, source, target,
 )  # fmt: skip
 from amqp_engine.values import write
-from hostile.peers import ROOT, array, compound, frame, with_bytes
+from hostile.peers import array, compound, frame, with_bytes
 from try_c.try_c_pair import frames
-
-sys.path.insert(0, str(ROOT / "examples" / "python"))
-
-from broker import Client
-from queues import BESIDE, Queues
 
 AT_ONCE, TESTS = 1, []
 NAMED = Described(Ulong(0x24), [])
@@ -229,43 +222,6 @@ async def frames_with_changed_bytes_raise_nothing():
             except Refusal as error:
                 came = [error]
             assert all(isinstance(it, Refusal) or it.session is not None for it in came), (said, came)
-
-
-class Stood:
-    """What the broker sees of a connection, in memory."""
-
-    def __init__(self):
-        self.engine = Engine(Open("server", max_frame_size=4096, channel_max=3))
-        self.server, self.went, self.unsent = Server(self.engine), asyncio.Event(), 0
-
-    def push(self):
-        return len(self.server.to_send())
-
-
-@test
-async def frames_with_changed_bytes_raise_nothing_in_the_broker():
-    chance, queues, clients = random.Random(3), Queues(), []
-    for at in range(2000):
-        if at % 100 == 0:
-            for it in clients:
-                it.drop(*it.links.values())
-            clients = [Client(queues, Stood()) for _ in range(2)]
-            hears(clients, frame(Open("client")) + frame(Begin(None, 0, 1000, 1000)) + frame(Attach("s", 0, SENDER, target=target("q"), initial_delivery_count=0)))
-        hears(clients[:1] if at % 2 else clients[1:], changed(chance))
-    for it in clients:
-        it.drop(*it.links.values())
-    # what is left are messages
-    assert all(it.messages and not it.links for it in queues.all()) and queues.size == sum(it.size for it in queues.all())
-    assert queues.size == sum(len(message) + BESIDE for it in queues.all() for message in it.messages), queues.size
-
-
-def hears(clients, data):
-    for it in clients:
-        if it.engine.state == "START" or it.engine.state == "HDR_EXCH":
-            it.engine.open()
-        for event in it.connection.server.receive(data):
-            it.take(event)
-        it.push()
 
 
 @test

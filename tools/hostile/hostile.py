@@ -18,15 +18,15 @@ sys.path.insert(0, str(Path(__file__).resolve().parents[2] / "bindings" / "pytho
 
 from shared.command import command
 
-GROUPS = ("values", "logins", "streams", "frames", "brokers")
+GROUPS = ("values", "logins", "streams", "frames", "brokers", "clients", "floods", "streams_by_chance")
 
 
-async def tried(it, turns):
-    """What failed of a test; nothing where it passed."""
+async def tried(it, turns, longest=60):
+    """What failed of a test, which takes so many seconds at most; nothing where it passed."""
     async with turns:
         start = time.monotonic()
         try:
-            await asyncio.wait_for(it(), 60)
+            await asyncio.wait_for(it(), longest)
             error = None
         except Exception as raised:
             error = f"{type(raised).__name__}: {raised}"[:1000]
@@ -37,8 +37,8 @@ async def tried(it, turns):
 async def group(name):
     """The tests of a group, a few at a time where they mostly wait; and one more, that no task of a connection stays."""
     of = importlib.import_module(f"hostile.{name}")
-    turns = asyncio.Semaphore(of.AT_ONCE)
-    errors = await asyncio.gather(*(tried(it, turns) for it in of.TESTS))
+    turns, longest = asyncio.Semaphore(of.AT_ONCE), getattr(of, "LONGEST", 60)
+    errors = await asyncio.gather(*(tried(it, turns, longest) for it in of.TESTS))
     errors.append(await tried(no_task_stays, turns))
     failed = sum(it is not None for it in errors)
     print(f"{len(errors) - failed} passed, {failed} failed")

@@ -129,9 +129,10 @@ async def listens(script):
 class Broker:
     """The broker of the examples, as a process of its own."""
 
+    words = [sys.executable, str(ROOT / "examples" / "python" / "broker.py"), "0"]
+
     async def __aenter__(self):
-        words = [sys.executable, str(ROOT / "examples" / "python" / "broker.py"), "0"]
-        self.process = await asyncio.create_subprocess_exec(*words, stdout=asyncio.subprocess.PIPE, stderr=asyncio.subprocess.PIPE)
+        self.process = await asyncio.create_subprocess_exec(*self.words, stdout=asyncio.subprocess.PIPE, stderr=asyncio.subprocess.PIPE)
         self.port = int((await self.process.stdout.readline()).rpartition(b":")[2])
         await ping(self.port)
         self.megabytes_before, self.files_before = self.megabytes(), self.files()

@@ -22,9 +22,13 @@ from amqp_engine.library import How, LoginHead, Place, load
 from hostile.peers import frame
 from shared.command import command
 from try_c.try_c_chances import TESTS as BY_CHANCE
+from try_c.try_c_clients import TESTS as OF_CLIENTS
 from try_c.try_c_cuts import TESTS as OF_CUTS
 from try_c.try_c_links import TESTS as OF_LINKS
+from try_c.try_c_messages import TESTS as OF_MESSAGES
 from try_c.try_c_pair import Pair, frames, mapped, refused
+from try_c.try_c_served import TESTS as OF_SERVED
+from try_c.try_c_serving import TESTS as OF_SERVING
 from try_c.try_c_sockets import OPEN, TESTS as OVER_SOCKETS
 from try_c.try_c_streams import TESTS as OF_STREAMS
 from try_c.try_c_values import TESTS as OF_VALUES
@@ -390,7 +394,8 @@ def main():
     if len(sys.argv) != 2:
         sys.exit(__doc__.strip())
     os.environ["AMQP_LIBRARY"] = str(Path(sys.argv[1]).resolve())
-    failed, tests = 0, OF_VALUES + TESTS + OF_CUTS + OF_LINKS + BY_CHANCE + OF_STREAMS + OVER_SOCKETS
+    failed, tests = 0, OF_VALUES + OF_MESSAGES + TESTS + OF_CUTS + OF_LINKS + BY_CHANCE + OF_STREAMS + OVER_SOCKETS
+    tests += OF_CLIENTS + OF_SERVING + OF_SERVED
     for it in tests:
         try:
             it()

@@ -1,6 +1,6 @@
 #!/usr/bin/env bash
-# Tries the library for C: its tests in C, by tools/try_c/amqp1_try.sh; what engines hold as frames come; the wrapper for Rust in two editions, where
-# there is a rustc. And over the shared library tools/try_c/try_c.py, the hostile peers of
+# Tries the library for C: its tests in C, by tools/try_c/amqp1_try.sh; what engines hold as frames come; the crate for Rust, by tools/try_c/rust_try.sh.
+# And over the shared library tools/try_c/try_c.py, the hostile peers of
 # tools/hostile, and tools/try_c/try_c_captures.py and try_c_links_recorded.py with every recorded connection; and the wheel with that library, by
 # tools/try_c/try_c_wheel.py. What is not tried here for want of a program is named, a line each. The last line is 'N passed, M failed'.
 #
@@ -19,21 +19,12 @@ passed=0 failed=0
 include=$prefix/include library=$prefix/lib
 strict=(-std=c99 -Wall -Wextra -Wpedantic -Wconversion -Wshadow -Werror -I"$include" -Itools/try_c)
 
-# The tests of the wrapper for Rust, in an edition.
-wrapper() {
-    rustc --edition "$1" -D warnings -O --test bindings/rust/amqp_engine.rs -L native="$library" -l static=amqp1 -o "$folder/wrapper" &&
-        "$folder/wrapper" --test-threads 2
-}
-
 counts "libamqp1 from C" tools/try_c/amqp1_try.sh "$prefix" "${FUZZ_SECONDS:-60}"
 cc -g -O1 "${strict[@]}" tools/try_c/amqp1_{resident,bytes}.c "$library/libamqp1.a" -o "$folder/resident"
 counts "what engines hold" timeout 120 "$folder/resident"
-if has rustc "the wrapper for Rust"; then
-    holds "the wrapper for Rust, edition 2021" wrapper 2021
-    holds "the wrapper for Rust, edition 2024" wrapper 2024
-fi
+counts "the crate for Rust" timeout 900 tools/try_c/rust_try.sh "$prefix"
 counts "over Python" timeout 600 python3 tools/try_c/try_c.py "$library/libamqp1.so"
-counts "hostile peers, over Python" timeout 180 python3 tools/hostile/hostile.py "$library/libamqp1.so"
+counts "hostile peers, over Python" timeout 900 python3 tools/hostile/hostile.py "$library/libamqp1.so"
 counts "what is refused of recorded connections" timeout 600 python3 tools/try_c/try_c_captures.py "$library/libamqp1.so"
 counts "links of recorded connections" timeout 120 python3 tools/try_c/try_c_links_recorded.py "$library/libamqp1.so"
 counts "the wheel and the sdist" timeout 600 python3 tools/try_c/try_c_wheel.py "$prefix"

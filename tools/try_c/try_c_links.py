@@ -13,7 +13,7 @@ from amqp_engine.driver import (
     ABORTED, ATTACH_WANTED, BEGIN_WANTED, CLOSED, DETACHED, ENDED, MORE, NONE, SETTLED, STATE_ACCEPTED, STATE_REJECTED, STATE_RELEASED,
 )  # fmt: skip
 from amqp_engine.linking import (
-    END_ANSWERED, END_BY_PEER, END_REFUSED, EVENT_ABORTED, EVENT_ATTACHED, EVENT_ENDED, EVENT_FAULT, EVENT_FIRST, EVENT_FLOW, EVENT_FOR_GOOD,
+    END_ANSWERED, END_BY_PEER, END_REFUSED, EVENT_ABORTED, EVENT_ATTACHED, EVENT_BY_PEER, EVENT_ENDED, EVENT_FAULT, EVENT_FIRST, EVENT_FLOW, EVENT_FOR_GOOD,
     EVENT_GIVEN, EVENT_LAST, EVENT_NOTHING, EVENT_PART, EVENT_PASSED_OVER, EVENT_PRESETTLED, EVENT_RECEIVED, EVENT_SETTLED, FAULT_COUNT_PAST_LIMIT,
     FAULT_NONE_UNDER_WAY, FAULT_NO_NUMBER, FAULT_NO_TAG, FAULT_OTHER_DELIVERY, FAULT_OVER_CREDIT, FAULT_TOO_LARGE, LIFE_ATTACHED, LIFE_REFUSED,
     WHY_LINK_NONE_UNDER_WAY, WHY_LINK_NOT_ATTACHED, WHY_LINK_NO_CREDIT, WHY_LINK_NO_SENDER, WHY_LINK_TOO_LARGE, WISH_ANSWER, WISH_DRAIN, WISH_GRANT,
@@ -106,7 +106,7 @@ def messages_go_by_credit_and_are_settled():
     assert list(ends.server.link_settled(THEIRS, RECEIVER, 0, 1)) == []
     flow, settled = ends.back()
     assert flow == LinkEvent(0, 0, OURS, EVENT_FLOW, mine, 0, 0, 0, 2, 0), flow
-    assert settled == LinkEvent(0, 0, OURS, EVENT_SETTLED, NONE, 0, 1, 0, 0, 0), settled
+    assert settled == LinkEvent(0, 0, OURS, EVENT_SETTLED, NONE, 0, 1, 0, 0, EVENT_BY_PEER), settled
     assert list(ends.client.link_settled_of(settled)) == [Unsettled(70, 0, mine)] and list(ends.client.link_settled_of(settled)) == []
 
 
@@ -228,7 +228,7 @@ def a_delivery_settled_second_is_settled_by_both():
     assert (settled.kind, settled.first, settled.last, settled.flags) == (EVENT_SETTLED, 0, 0, 0), settled
     assert list(ends.client.link_settled_of(settled)) == [Unsettled(70, 0, mine)]
     (settled,) = ends.there()
-    assert (settled.kind, settled.flags) == (EVENT_SETTLED, EVENT_RECEIVED), settled
+    assert (settled.kind, settled.flags) == (EVENT_SETTLED, EVENT_RECEIVED | EVENT_BY_PEER), settled
     assert list(ends.server.link_settled_of(settled)) == [Unsettled(90, 0, theirs)]
 
 

@@ -190,6 +190,7 @@ def a_watcher_tells_what_breaks_the_protocol():
             finally:
                 if watcher.returncode is None:
                     watcher.kill()
+                await watcher.wait()
 
     told = asyncio.run(both())
     assert "connection 1, client, frame 5, Flow: UnattachedHandle\n" in told, told

@@ -41,8 +41,8 @@ class Engine(Driver):
         self._theirs: Optional[Open] = None
         self._has_theirs = False
         self._told_unfit = 0
-        # the sessions that have links by `link_attach`
-        self._linked: Set[int] = set()
+        #: The sessions that have links by `link_attach`
+        self.linked: Set[int] = set()
         #: The most bytes of a frame, with its size, that this side takes
         self.max_frame_size = 2**32 - 1 if open.max_frame_size is None else open.max_frame_size
         #: The last channel of the peer's on which this side takes frames
@@ -100,6 +100,10 @@ class Engine(Driver):
         """The frame of a record, behind its size and up to its payload, while `receive_by` asks what is told of it."""
         return bytes(self._came[record.at - 4 : record.at + record.size])
 
+    def payload_of(self, record: Record) -> bytes:
+        """The payload of a record, at the same time."""
+        return bytes(self._came[record.payload_at : record.payload_at + record.payload])
+
     def events_of(self, record: Record) -> List[Told]:
         """What `receive` tells of a record."""
         if begins.SASL_HEADER <= record.kind <= begins.NOT_OPENED:
@@ -109,20 +113,20 @@ class Engine(Driver):
             event = self._event_of(record, body)
         except Malformed as error:
             event = unreadable(error)
-        if record.session in self._linked:
+        if record.session in self.linked:
             event = self._tell_links(record, event)
         told = [] if event is None else [event]
-        return told + self._unfit_of() if record.kind in (said.FLOW, said.DISPOSITION) else told
+        return told + self.told_unfit() if record.kind in (said.FLOW, said.DISPOSITION) else told
 
-    def link_attach(self, session: int, attach: Attach, low: int = 0, high: int = 0) -> int:
+    def link_attach(self, session: int, attach: Attach, low: int = 0, high: int = 0, name: str = "") -> int:
         """As `Links.link_attach`. From then on each event of the session says what it is to its links (`Event.link`)."""
-        link = super().link_attach(session, attach, low, high)
-        self._linked.add(session)
+        link = super().link_attach(session, attach, low, high, name)
+        self.linked.add(session)
         return link
 
     def link_forget(self, session: int) -> bool:
         """As `Links.link_forget`."""
-        self._linked.discard(session)
+        self.linked.discard(session)
         return super().link_forget(session)
 
     def _tell_links(self, record: Record, event: Optional[Told]) -> Optional[Told]:
@@ -135,8 +139,8 @@ class Engine(Driver):
             event.link = said
         return event
 
-    def _unfit_of(self) -> List[Told]:
-        """What a frame let out, and what does not fit the peer's limit, is gone."""
+    def told_unfit(self) -> List[Told]:
+        """What is told of what a frame let out and what did not fit the peer's limit: it is gone."""
         before, self._told_unfit = self._told_unfit, self.unfit
         return [Refusal("TooLarge", count=self._told_unfit - before)] if self._told_unfit > before else []
 
@@ -145,8 +149,7 @@ class Engine(Driver):
         kind, flags = record.kind, record.flags
         link = (record.session, record.input, None if record.output == NONE else record.output)
         if kind == said.TRANSFER:
-            payload = bytes(self._came[record.payload_at : record.payload_at + record.payload])
-            return Transferred(*link, Transfer.decode(body), payload)
+            return Transferred(*link, Transfer.decode(body), self.payload_of(record))
         if kind == said.DISPOSITION:
             state = _state_of(body) if flags & said.STATED else None
             is_of_receiver, is_settled = bool(flags & said.OF_RECEIVER), bool(flags & said.SETTLED)

@@ -3,7 +3,11 @@
 from __future__ import annotations
 
 from collections.abc import Sequence
+from datetime import datetime, timezone
 from typing import Any, NamedTuple, Optional, Union
+
+#: How many values may lie inside each other
+DEEPEST = 64
 
 
 class Malformed(ValueError):
@@ -68,6 +72,11 @@ class Timestamp(int):
     """Milliseconds since 1970."""
 
     __slots__ = ()
+
+    @property
+    def datetime(self) -> datetime:
+        """The same as Python's time, in UTC. Raises `OverflowError` or `ValueError` where it has none."""
+        return datetime.fromtimestamp(self / 1000, timezone.utc)
 
 
 class Float(float):

@@ -8,9 +8,11 @@ a `values.Map`.
 from __future__ import annotations
 
 from dataclasses import dataclass, fields
+from datetime import datetime
 from typing import Any, Callable, ClassVar, Dict, List, Mapping, Optional, Tuple, Type, TypeVar
+from uuid import UUID
 
-from .values import Array, Described, Malformed, Map, Symbol, Ubyte, Uint, Ulong, Ushort, read, write
+from .values import Array, Described, Malformed, Map, Symbol, Timestamp, Ubyte, Uint, Ulong, Ushort, read, write
 
 #: The end of a link on which a side stands (section 2.8.1)
 SENDER, RECEIVER = False, True
@@ -24,7 +26,7 @@ _P = TypeVar("_P", bound="Performative")
 _NAMES: Dict[type, Tuple[str, ...]] = {}
 
 
-def _names(cls: Any) -> Tuple[str, ...]:
+def names_of(cls: Any) -> Tuple[str, ...]:
     """The names of a performative's fields, which are looked up once."""
     if cls not in _NAMES:
         _NAMES[cls] = tuple(field.name for field in fields(cls))
@@ -36,13 +38,25 @@ def _symbols(value: Any) -> Any:
     return Array([Symbol(it) for it in value]) if isinstance(value, (list, tuple)) else Symbol(value)
 
 
+def _moment(value: Any) -> Any:
+    """A time, as milliseconds or as Python has it."""
+    return value if isinstance(value, datetime) else Timestamp(value)
+
+
+def _identity(value: Any) -> Any:
+    """The identity of a message; a number is an `ulong` (AMQP 1.0 part 3, section 3.2.11)."""
+    return Ulong(value) if isinstance(value, int) else value
+
+
 _WRITTEN: Dict[str, Callable[[Any], Any]] = {
     "string": str, "symbol": Symbol, "symbols": _symbols, "ulong": Ulong, "uint": Uint, "ushort": Ushort, "ubyte": Ubyte, "boolean": bool,
     "binary": bytes, "fields": lambda it: it, "value": lambda it: it, "error": lambda it: it.described(),
+    "timestamp": _moment, "identity": _identity,
 }  # fmt: skip
 _READ: Dict[str, Tuple[type, ...]] = {
     "string": (str,), "symbol": (Symbol,), "symbols": (Symbol, Array), "ulong": (Ulong,), "uint": (Uint,), "ushort": (Ushort,), "ubyte": (Ubyte,),
     "boolean": (bool,), "binary": (bytes,), "fields": (Map,), "value": (object,), "error": (Described,),
+    "timestamp": (Timestamp,), "identity": (Ulong, UUID, bytes, str),
 }  # fmt: skip
 
 
@@ -58,7 +72,7 @@ class Performative:
     def described(self) -> Described:
         """The described list; nulls at its end are left out."""
         items: List[Any] = []
-        for name, kind in zip(_names(type(self)), self.TYPES):
+        for name, kind in zip(names_of(type(self)), self.TYPES):
             value = getattr(self, name)
             if value is None and name in self.MANDATORY:
                 raise ValueError(f"{type(self).__name__}.{name} is mandatory")
@@ -76,7 +90,7 @@ class Performative:
         """The performative that a described list is."""
         if not isinstance(value, Described) or value.descriptor not in (cls.CODE, f"amqp:{cls.__name__.lower()}:list") or not isinstance(value.value, list):
             raise Malformed(f"no {cls.__name__}")
-        names = _names(cls)
+        names = names_of(cls)
         if len(value.value) > len(names):
             raise Malformed(f"{cls.__name__} has more than its fields")
         # a field that the peer left out is null, whatever this side's own has for a default

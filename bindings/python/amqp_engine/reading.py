@@ -6,11 +6,11 @@ import struct
 import uuid
 from typing import Any, Callable, Dict, List, Tuple, TypeVar
 
-from .kinds import Array, Byte, Char, Decimal, Described, Float, Int, Malformed, Repeated, Short, Symbol, Timestamp, Ubyte, Uint, Ulong, Ushort
+from .kinds import (
+    DEEPEST, Array, Byte, Char, Decimal, Described, Float, Int, Malformed, Repeated, Short, Symbol, Timestamp, Ubyte, Uint, Ulong, Ushort,
+)  # fmt: skip
 from .maps import Map
 
-#: How many values may lie inside each other
-_DEEPEST = 64
 #: How many descriptors may stand before the items of an array, each of which has all of them
 _MOST_DESCRIPTORS = 2
 _T = TypeVar("_T")
@@ -47,6 +47,7 @@ _FIXED: Dict[int, Tuple[int, Callable[[bytes], Any]]] = {
     0x82: (8, lambda of: struct.unpack(">d", of)[0]), 0x83: (8, lambda of: Timestamp(_signed(of))), 0x84: (8, Decimal),
     0x94: (16, Decimal), 0x98: (16, lambda of: uuid.UUID(bytes=of)),
 }  # fmt: skip
+_SIZED = (0xA0, 0xA1, 0xA3, 0xC0, 0xC1, 0xE0)
 _VARIABLE: Dict[int, Callable[[bytes], Any]] = {0xA0: bytes, 0xA1: lambda of: of.decode(), 0xA3: lambda of: Symbol(of.decode("ascii"))}
 
 
@@ -56,6 +57,23 @@ def read(of: bytes, at: int = 0) -> Tuple[Any, int]:
         return _value(of, at, len(of), 0)
     except UnicodeDecodeError as error:
         raise Malformed(str(error)) from None
+
+
+def end_of(of: bytes, at: int = 0) -> int:
+    """Where the value at `at` ends, of which the sizes alone are looked at. Raises `Malformed` where none stands there."""
+    end, left = len(of), 1
+    while left:
+        start = _end(at, 1, end)
+        code = of[at]
+        if code == 0:
+            # a descriptor, and what it describes
+            at, left = start, left + 1
+            continue
+        if code not in _FIXED and code & 0xEF not in _SIZED:
+            raise Malformed(f"no type has the code {code:02x}")
+        at = _end(start, _FIXED[code][0], end) if code in _FIXED else _extent(code, of, start, end)[1]
+        left -= 1
+    return at
 
 
 def _end(at: int, count: int, end: int) -> int:
@@ -70,7 +88,7 @@ def _value(of: bytes, at: int, end: int, depth: int) -> Tuple[Any, int]:
     code = of[at]
     if code != 0:
         return _coded(code, of, start, end, depth)
-    if depth >= _DEEPEST:
+    if depth >= DEEPEST:
         raise Malformed("more than 64 values inside each other")
     descriptor, at = _value(of, start, end, depth + 1)
     value, at = _value(of, at, end, depth + 1)
@@ -103,7 +121,7 @@ def _compound(code: int, of: bytes, at: int, end: int, depth: int) -> Any:
     """A list, a map or an array: a count, and then what it counts."""
     if code & 0xEF not in (0xC0, 0xC1, 0xE0):
         raise Malformed(f"no type has the code {code:02x}")
-    if depth >= _DEEPEST:
+    if depth >= DEEPEST:
         raise Malformed("more than 64 values inside each other")
     start = _end(at, _width(code), end)
     count = _unsigned(of[at:start])

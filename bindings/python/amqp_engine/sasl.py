@@ -6,6 +6,8 @@ import inspect
 from dataclasses import dataclass
 from typing import Awaitable, Callable, Optional, Tuple, Union
 
+from .errors import LoginRefused
+
 #: What an outcome says: the login is taken, it is not, or this side failed to judge it (section 5.3.3.6)
 OK, AUTH, SYS = 0, 1, 2
 
@@ -37,10 +39,6 @@ class External:
 
 #: How a client logs in
 Login = Union[Anonymous, Plain, External]
-
-
-class LoginRefused(ConnectionError):
-    """The peer does not take this login, or offers no mechanism for it."""
 
 
 def said_by(login: Login) -> Tuple[str, bytes]:
@@ -79,3 +77,8 @@ async def judge(mechanism: str, response: Optional[bytes], check: Optional[Check
         return False
     said = check(login.user, login.password)
     return (await said if inspect.isawaitable(said) else said) is True
+
+
+__all__ = [
+    "AUTH", "Anonymous", "Check", "External", "Login", "LoginRefused", "OK", "Plain", "SYS", "judge", "offered_for", "plain_of", "said_by",
+]  # fmt: skip

@@ -100,7 +100,9 @@ class Stream:
 
     def _write_out(self) -> None:
         if self._written:
-            self._writer.write(bytes(self._written))
+            # of a stream that is closing nothing goes out any more, and asyncio says so each time
+            if not self._writer.transport.is_closing():
+                self._writer.write(bytes(self._written))
             self._written.clear()
 
     @property
@@ -143,6 +145,10 @@ class Stream:
         self._failed = error
         self._writer.transport.abort()
         return error
+
+    def abort(self) -> None:
+        """Ends the stream at once; what waits does not go out."""
+        self._writer.transport.abort()
 
     async def close(self) -> None:
         """Closes the stream. What waits goes out, if the peer reads it soon; else it does not."""

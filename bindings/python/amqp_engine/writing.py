@@ -5,21 +5,43 @@ from __future__ import annotations
 import struct
 import uuid
 from collections.abc import Mapping, Sequence
+from datetime import datetime
 from typing import Any, Callable, Dict, List, Optional, Tuple, Union
 
-from .kinds import Array, Byte, Char, Decimal, Described, Float, Int, Repeated, Short, Symbol, Timestamp, Ubyte, Uint, Ulong, Ushort
+from .kinds import (
+    DEEPEST, Array, Byte, Char, Decimal, Described, Float, Int, Repeated, Short, Symbol, Timestamp, Ubyte, Uint, Ulong, Ushort,
+)  # fmt: skip
 
 
 def write(value: Any) -> bytes:
-    """The bytes of a value."""
-    if value is None:
-        return b"\x40"
-    if isinstance(value, Described):
-        return b"\x00" + write(value.descriptor) + write(value.value)
+    """The bytes of a value. Raises `TypeError` where no type of AMQP has it, `OverflowError` where it does not fit its type, and `ValueError` where more
+    than 64 values lie inside each other."""
+    return _write(value, 0)
+
+
+def _write(value: Any, depth: int) -> bytes:
+    writer = _EXACT.get(type(value))
+    if writer is not None:
+        return writer(value)
+    if isinstance(value, _COMPOUND):
+        if depth >= DEEPEST:
+            raise ValueError(f"more than {DEEPEST} values inside each other")
+        return _compound(value, depth + 1)
     for kind, writer in _WRITERS:
         if isinstance(value, kind):
             return writer(value)
     raise TypeError(f"no type of AMQP for {type(value).__name__}")
+
+
+def _compound(value: Any, depth: int) -> bytes:
+    """The bytes of a value that has others in it."""
+    if isinstance(value, Described):
+        return b"\x00" + _write(value.descriptor, depth) + _write(value.value, depth)
+    if isinstance(value, Array):
+        return _sized(0xE0, *_parts(value, depth))
+    if isinstance(value, Mapping):
+        return _sized(0xC1, *_parts(value, depth))
+    return _sized(0xC0, *_parts(value, depth)) if value else b"\x45"
 
 
 def _number(width: int, signed: bool) -> Callable[[int], bytes]:
@@ -40,6 +62,11 @@ def _short(zero: Optional[bytes], short: int, code: int, signed: bool = False) -
 
 def _plain(code: int) -> Callable[[Any], bytes]:
     return lambda value: bytes([code]) + _FIXED[code](value)
+
+
+def _moment(value: datetime) -> bytes:
+    """A timestamp; what says no zone is local time, as Python has it."""
+    return b"\x83" + round(value.timestamp() * 1000).to_bytes(8, "big", signed=True)
 
 
 def _variable(short: int) -> Callable[[Any], bytes]:
@@ -64,25 +91,23 @@ def _extent(code: int, data: bytes, count: Optional[int] = None) -> bytes:
     return (len(counted) + len(data)).to_bytes(width, "big") + counted + data
 
 
-def _write_list(items: List[Any]) -> bytes:
-    return b"\x45" if not items else _sized(0xC0, *_parts(items))
-
-
-def _parts(value: Any) -> Tuple[bytes, int]:
+def _parts(value: Any, depth: int) -> Tuple[bytes, int]:
     """What stands in a list, a map or an array, and its count."""
     if isinstance(value, Array):
-        constructor = value.constructor or _constructor(value.items)
-        return constructor + _items(constructor[-1], value.items), len(value.items)
+        constructor = value.constructor or _constructor(value.items, depth)
+        return constructor + _items(constructor[-1], value.items, depth), len(value.items)
     if isinstance(value, Mapping):
-        return b"".join(write(key) + write(it) for key, it in value.items()), 2 * len(value)
-    return b"".join(map(write, value)), len(value)
+        return b"".join(_write(key, depth) + _write(it, depth) for key, it in value.items()), 2 * len(value)
+    return b"".join(_write(it, depth) for it in value), len(value)
 
 
 # ---- the items of an array
 
 
-def _constructor(items: Sequence[Any]) -> bytes:
+def _constructor(items: Sequence[Any], depth: int) -> bytes:
     """What stands before items of one type, where nothing says how they came."""
+    if depth > DEEPEST:
+        raise ValueError(f"more than {DEEPEST} values inside each other")
     if not items:
         return b"\x40"
     first = items[0]
@@ -91,7 +116,7 @@ def _constructor(items: Sequence[Any]) -> bytes:
     if isinstance(first, Described):
         if any(it.descriptor != first.descriptor for it in items):
             raise TypeError("an array of items of several descriptors")
-        return b"\x00" + write(first.descriptor) + _constructor([it.value for it in items])
+        return b"\x00" + _write(first.descriptor, depth) + _constructor([it.value for it in items], depth + 1)
     return bytes([_code(first, items)])
 
 
@@ -106,20 +131,22 @@ def _code(first: Any, items: Sequence[Any]) -> int:
     return code & 0xEF if is_short else code
 
 
-def _items(code: int, items: Sequence[Any]) -> bytes:
+def _items(code: int, items: Sequence[Any], depth: int) -> bytes:
     if isinstance(items, Repeated) and code in _EMPTY:
         items = items[:1]
-    return b"".join(_data(code, it) for it in items)
+    if depth > DEEPEST:
+        raise ValueError(f"more than {DEEPEST} values inside each other")
+    return b"".join(_data(code, it, depth) for it in items)
 
 
-def _data(code: int, item: Any) -> bytes:
+def _data(code: int, item: Any, depth: int) -> bytes:
     """An item after the constructor of its array."""
     while isinstance(item, Described):
         item = item.value
     if code in _FIXED:
         return _FIXED[code](item)
     if code not in _EMPTY:
-        return _extent(code, _bytes(item)) if code & 0xEF in (0xA0, 0xA1, 0xA3) else _extent(code, *_parts(item))
+        return _extent(code, _bytes(item)) if code & 0xEF in (0xA0, 0xA1, 0xA3) else _extent(code, *_parts(item, depth + 1))
     if item != _EMPTY[code]:
         raise ValueError(f"{item!r} is no item of an array of the code {code:02x}")
     return b""
@@ -140,10 +167,13 @@ _WIDEST: List[Tuple[type, int]] = [
     (Timestamp, 0x83), (int, 0x81), (Float, 0x72), (float, 0x82), (uuid.UUID, 0x98), (Symbol, 0xB3), (Char, 0x73), (str, 0xB1), (bytes, 0xB0),
     (list, 0xD0), (Mapping, 0xD1), (Array, 0xF0),
 ]  # fmt: skip
+# of a kind and those that are made from it, in this order: what stands later is more general
 _WRITERS: List[Tuple[type, Callable[[Any], bytes]]] = [
-    (bool, lambda it: b"\x41" if it else b"\x42"), (Ubyte, _plain(0x50)), (Ushort, _plain(0x60)), (Uint, _short(b"\x43", 0x52, 0x70)),
-    (Ulong, _short(b"\x44", 0x53, 0x80)), (Byte, _plain(0x51)), (Short, _plain(0x61)), (Int, _short(None, 0x54, 0x71, True)),
-    (Timestamp, _plain(0x83)), (int, _short(None, 0x55, 0x81, True)), (Float, _plain(0x72)), (float, _plain(0x82)), (uuid.UUID, _plain(0x98)),
-    (Decimal, lambda it: bytes([_code(it, [it])]) + bytes(it)), (Symbol, _variable(0xA3)), (Char, _plain(0x73)), (str, _variable(0xA1)),
-    (bytes, _variable(0xA0)), (list, _write_list), (Mapping, lambda it: _sized(0xC1, *_parts(it))), (Array, lambda it: _sized(0xE0, *_parts(it))),
+    (type(None), lambda it: b"\x40"), (bool, lambda it: b"\x41" if it else b"\x42"), (Ubyte, _plain(0x50)), (Ushort, _plain(0x60)),
+    (Uint, _short(b"\x43", 0x52, 0x70)), (Ulong, _short(b"\x44", 0x53, 0x80)), (Byte, _plain(0x51)), (Short, _plain(0x61)),
+    (Int, _short(None, 0x54, 0x71, True)), (Timestamp, _plain(0x83)), (int, _short(None, 0x55, 0x81, True)), (Float, _plain(0x72)),
+    (float, _plain(0x82)), (uuid.UUID, _plain(0x98)), (Decimal, lambda it: bytes([_code(it, [it])]) + bytes(it)), (Symbol, _variable(0xA3)),
+    (Char, _plain(0x73)), (str, _variable(0xA1)), (bytes, _variable(0xA0)), (bytearray, lambda it: _sized(0xA0, bytes(it))), (datetime, _moment),
 ]  # fmt: skip
+_EXACT: Dict[type, Callable[[Any], bytes]] = dict(_WRITERS)
+_COMPOUND = (Described, list, tuple, Mapping, Array)
