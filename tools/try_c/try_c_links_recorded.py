@@ -202,7 +202,7 @@ class Side(Asking):
         # a terminal outcome of the receiver's is answered by a settled one (section 2.6.12)
         if not frame["settled"] and not (is_receiver and state in TERMINAL):
             return self.check("the event", event[3:5], NOTHING)
-        flags = 0 if is_receiver else linking.EVENT_RECEIVED
+        flags = (0 if is_receiver else linking.EVENT_RECEIVED) | (linking.EVENT_BY_PEER if frame["settled"] else 0)
         self.check("the event", event, LinkEvent(0, 0, session.number, linking.EVENT_SETTLED, kinds.NONE, *found, 0, 0, flags))
         settled = self.settled(session, not is_receiver, self.driver.link_settled_of(event), found)
         if not frame["settled"]:
