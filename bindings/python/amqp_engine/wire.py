@@ -147,7 +147,7 @@ class Wire(asyncio.Protocol):
             self.fail(error)
 
     async def drain(self) -> None:
-        """Waits while the peer has much to read."""
+        """Waits while the peer has much to read: no longer than `Waits.reading`, after which the connection is over."""
         while self.is_paused and not self._is_over:
             waits: "asyncio.Future[None]" = self._loop.create_future()
             self._drained.append(waits)
