@@ -23,8 +23,8 @@ cd "$(dirname "$0")/.."
 server=crates/example_broker/out/example_broker
 [ -n "$small" ] || command -v rt >/dev/null || [ -x "$server" ] || { echo "try_brokers: no rt on the path, and no example_broker that it left" >&2; exit 1; }
 folder=$(mktemp -d)
-running=()
-trap 'for it in "${running[@]}"; do kill "$it" 2>/dev/null || true; done; wait 2>/dev/null; rm -rf "$folder"' EXIT
+running=() rabbitmq_running=()
+trap 'for it in "${running[@]}" "${rabbitmq_running[@]}"; do kill "$it" 2>/dev/null || true; done; wait 2>/dev/null; rm -rf "$folder"' EXIT
 
 install() {
     dpkg -s "$@" >/dev/null 2>&1 || { apt-get update -q && DEBIAN_FRONTEND=noninteractive apt-get install -q -y --no-install-recommends "$@"; } >"$folder/apt" 2>&1 ||
@@ -57,10 +57,10 @@ start_proton() {
 
 start_rabbitmq() {
     install rabbitmq-server || return 1
-    local names home=$folder/rabbitmq
-    rabbitmq=$(free_port) rabbitmq_tls=$(free_port) names=$(free_port)
+    home=$folder/rabbitmq
+    rabbitmq=$(free_port) rabbitmq_tls=$(free_port) rabbitmq_names=$(free_port) rabbitmq_nodes=$(free_port)
     # Erlang's server of names, which RabbitMQ would start by itself and leave behind
-    epmd -port "$names" -address 127.0.0.1 &
+    epmd -port "$rabbitmq_names" -address 127.0.0.1 &
     running+=($!)
     mkdir -p "$home/log"
     printf '%s\n' "listeners.tcp.1 = 127.0.0.1:$rabbitmq" "listeners.ssl.1 = 127.0.0.1:$rabbitmq_tls" 'default_user = guest' 'default_pass = guest' \
@@ -68,15 +68,20 @@ start_rabbitmq() {
         "ssl_options.cacertfile = $keys/ca.pem" "ssl_options.certfile = $keys/localhost.pem" "ssl_options.keyfile = $keys/localhost.key" \
         'ssl_options.verify = verify_peer' 'ssl_options.fail_if_no_peer_cert = true' >"$home/rabbitmq.conf"
     echo '[rabbitmq_amqp1_0,rabbitmq_auth_mechanism_ssl].' >"$home/enabled_plugins"
-    HOME=$home ERL_EPMD_PORT=$names ERL_EPMD_ADDRESS=127.0.0.1 RABBITMQ_NODENAME=bridge@localhost RABBITMQ_DIST_PORT=$(free_port) \
+    run_rabbitmq || return 1
+    echo "== RabbitMQ $(dpkg-query -f '${Version}' -W rabbitmq-server)"
+}
+
+# Runs it; the second time with what the first one left in its folder.
+run_rabbitmq() {
+    HOME=$home ERL_EPMD_PORT=$rabbitmq_names ERL_EPMD_ADDRESS=127.0.0.1 RABBITMQ_NODENAME=bridge@localhost RABBITMQ_DIST_PORT=$rabbitmq_nodes \
         RABBITMQ_MNESIA_BASE=$home/mnesia RABBITMQ_LOG_BASE=$home/log RABBITMQ_CONFIG_FILE=$home/rabbitmq.conf \
         RABBITMQ_ENABLED_PLUGINS_FILE=$home/enabled_plugins RABBITMQ_CONF_ENV_FILE=/dev/null RABBITMQ_PID_FILE=$home/pid \
         RABBITMQ_SERVER_ADDITIONAL_ERL_ARGS='-kernel inet_dist_use_interface {127,0,0,1}' \
         setsid "$(ls /usr/lib/rabbitmq/lib/*/sbin/rabbitmq-server | head -1)" >"$home/out" 2>&1 &
-    running+=($!)
-    await_port "$rabbitmq"
-    running+=("$(cat "$home/pid")")
-    echo "== RabbitMQ $(dpkg-query -f '${Version}' -W rabbitmq-server)"
+    local script=$!
+    await_port "$rabbitmq" || { running+=("$script") && return 1; }
+    rabbitmq_running=("$script" "$(cat "$home/pid")")
 }
 
 start_broker() {
@@ -136,7 +141,9 @@ prefix=${AMQP_PREFIX:-$folder/library}
 [ -e "$prefix/lib/libamqp1.a" ] || tools/build_c.sh "$prefix" >"$folder/build"
 export AMQP_LIBRARY=$prefix/lib/libamqp1.so
 . tools/try_live.sh
+. tools/try_live_modes.sh
 build_live
+build_live_modes
 build_live_cpp
 build_live_rust
 
@@ -154,8 +161,8 @@ started() {
 
 # The small programs with each peer that is no broker of its own.
 try_small() {
-    if started build_proton_cpp && started install python3-qpid-proton; then try_live_servers && try_live_clients; fi
-    if started install python3-uamqp; then try_live_uamqp; fi
+    if started build_proton_cpp && started install python3-qpid-proton; then try_live_servers && try_live_clients && try_live_modes_clients; fi
+    if started install python3-uamqp; then try_live_uamqp && try_live_modes_uamqp; fi
 }
 
 # The programs that are not small.
@@ -169,6 +176,7 @@ try_proton() {
     tried watched "$proton"
     try_live_examples proton-c 127.0.0.1 "$proton" examples
     try_live_windows proton-c 127.0.0.1 "$proton" windows
+    try_live_modes proton-c "mixed first" "mixed first" settled 10000 127.0.0.1 "$proton" modes
 }
 try_rabbitmq() {
     tried bridge "$rabbitmq" /queue/messages --sasl guest:guest
@@ -187,6 +195,8 @@ try_served() {
     tried client_in_python "amqp://127.0.0.1:$served/" client --released --cut
     tried small_in_python "amqp://127.0.0.1:$served/" small
     tried in_c "$served" another
+    try_live_modes broker.py = = asked 2000 127.0.0.1 "$served" modes
+    try_live_browsers broker.py 127.0.0.1 "$served" examples
     if started build_proton_cpp && started install python3-uamqp; then try_live_served; fi
 }
 
@@ -205,6 +215,8 @@ fi
 if started start_rabbitmq; then
     [ -n "$small" ] || try_rabbitmq
     try_live_rabbitmq
+    try_live_modes_rabbitmq
+    tried outlasted
 fi
 try_small
 echo "$passed passed, $failed failed"

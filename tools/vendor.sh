@@ -1,7 +1,8 @@
 #!/usr/bin/env bash
-# Puts the library crates into a Rattle repository of one's own: fe2o3_amqp, and those that it stands on, as crates.txt has them.
+# Puts library crates into a Rattle repository of one's own: those that are named, or fe2o3_amqp, and those that these stand on, as crates.txt has them.
 #
-#     tools/vendor.sh DEST
+#     tools/vendor.sh DEST             fe2o3_amqp: the engine
+#     tools/vendor.sh DEST CRATE ..    as amqp_transport and amqp_endpoints: a reader and a writer around a stream, and links
 #
 # Each crate's folder is copied to DEST/crates/NAME (DEST/NAME where DEST has a crates.txt and no folder crates/), its line is put into
 # DEST/crates.txt, the licences and NOTICE go into DEST/licences-amqp, and HANDLES is written where there is none. Copied, since the toolchain
@@ -10,7 +11,7 @@
 # A folder of such a name that it did not make is left as it is, and the status is 1.
 set -euo pipefail
 root=$(cd "$(dirname "$0")/.." && pwd -P)
-top=fe2o3_amqp
+tops=fe2o3_amqp
 mark="# AMQP 1.0, proved: put here by tools/vendor.sh of that repository, under the licences in licences-amqp/"
 
 fail() {
@@ -18,9 +19,9 @@ fail() {
     exit 1
 }
 
-# The crates of the repository that this one stands on, and itself after them: each line of crates.txt is NAME: DEP ..
+# The crates of the repository that these stand on, and themselves after them: each line of crates.txt is NAME: DEP ..
 needed() {
-    awk -v top="$top" -F: '
+    awk -v tops="$tops" -F: '
         /^[a-z]/ { line[$1] = $2 }
         function visit(name, parts, count, at) {
             if (!(name in line) || name in seen) return
@@ -29,7 +30,7 @@ needed() {
             for (at = 1; at <= count; at++) visit(parts[at])
             print name
         }
-        END { visit(top) }' "$root/crates.txt"
+        END { count = split(tops, top, " "); for (at = 1; at <= count; at++) visit(top[at]) }' "$root/crates.txt"
 }
 
 # Copies a crate, and takes away first what an earlier copy left, but for out/.
@@ -52,11 +53,13 @@ merged() {
 
 case "${1-}" in
 -h | --help) sed -n '2,/^set/{/^set/d;s/^# \{0,1\}//;p}' "$0" && exit 0 ;;
-"" | -*) fail "usage: tools/vendor.sh DEST" ;;
+"" | -*) fail "usage: tools/vendor.sh DEST [CRATE ..]" ;;
 esac
-[ $# = 1 ] || fail "usage: tools/vendor.sh DEST"
+[ $# = 1 ] || tops=${*:2}
+for name in $tops; do
+    grep -q "^$name:" "$root/crates.txt" || fail "$root/crates.txt has no line of a library for $name"
+done
 names=$(needed)
-[ -n "$names" ] || fail "$root/crates.txt has no line for $top"
 mkdir -p "$1"
 dest=$(cd "$1" && pwd -P)
 [ "$dest" != "$root" ] || fail "$dest is this repository itself"

@@ -45,3 +45,51 @@ void answer(const amqp1_record *record, const uint8_t *input, const amqp1_event 
     if (record->kind == AMQP1_KIND_ENDED)
         amqp1_link_forget(&engine, record->session);
 }
+
+/* By PLAIN, as this user, or by ANONYMOUS. */
+static void let_in(const amqp1_record *record, const uint8_t *input, const char *user, const char *password)
+{
+    char plain[256];
+    int length = snprintf(plain, sizeof plain, "%c%s%c%s", 0, user, 0, password);
+    int is_right = amqp1_mechanism_is(input, record, "ANONYMOUS") || is_text(amqp1_payload(input, record), plain, (size_t)length);
+    must("a login", amqp1_login(&engine, is_right ? AMQP1_LOGIN_OK : AMQP1_LOGIN_AUTH));
+    printf("%s by %.*s\n", is_right ? "let in" : "refused", (int)record->last, (const char *)input + record->first);
+}
+
+/* What a client receives or sends begins by an event of its own, since the link's is told by its answer. */
+static amqp1_event take_link(const amqp1_record *record, const uint8_t *input)
+{
+    amqp1_event event;
+    memset(&event, 0, sizeof event);
+    event.kind = AMQP1_EVENT_ATTACHED;
+    event.session = record->session;
+    event.link = answer_link(record, input, window);
+    return event;
+}
+
+amqp1_event serve_on(const amqp1_record *record, const uint8_t *input, const char *user, const char *password)
+{
+    amqp1_event event;
+    amqp1_unsettled delivery;
+    must("a record", amqp1_link_follow(&engine, record, &event));
+    if (record->kind == AMQP1_KIND_LOGIN_ASKED)
+        let_in(record, input, user, password);
+    else if (record->kind == AMQP1_KIND_ATTACH_WANTED)
+        return take_link(record, input);
+    else
+        answer(record, input, &event);
+    while (event.kind == AMQP1_EVENT_SETTLED && amqp1_link_settled_of(&engine, &event, &delivery) == AMQP1_DONE)
+        ;
+    return event;
+}
+
+int serve_next(int listening, const char *name)
+{
+    uint8_t key[16], open[64];
+    size_t length;
+    accept_on(listening, key);
+    must("an open's text", amqp1_write_open(open, sizeof open, &length, name, NULL, 65536, 255, 0));
+    must("an engine", amqp1_start_server(&engine, key, now(), LIMIT, "PLAIN ANONYMOUS", open, length));
+    must("an open", amqp1_open(&engine));
+    return run();
+}

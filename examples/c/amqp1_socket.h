@@ -63,6 +63,13 @@ uint32_t answer_link(const amqp1_record *record, const uint8_t *input, uint32_t 
    one that was refused ends the program. */
 void answer(const amqp1_record *record, const uint8_t *input, const amqp1_event *event);
 
+/* What a server does with each record: it lets a client in by ANONYMOUS, or by PLAIN as this user, takes the other end of each link, and answers as above. What
+   the record is to the links; of a link that the client attaches, AMQP1_EVENT_ATTACHED. */
+amqp1_event serve_on(const amqp1_record *record, const uint8_t *input, const char *user, const char *password);
+
+/* Serves the next client that connects, up to its end. Whether both sides have closed. */
+int serve_next(int listening, const char *name);
+
 /* Writes what waits, and takes what comes, until the connection is over, and frees the engine. Whether both sides have closed. */
 int run(void);
 

@@ -1,4 +1,4 @@
-// A blocking socket to one server: see client.hpp.
+// A blocking socket to one peer, and a client over it: see client.hpp.
 #include "client.hpp"
 #include <cstdlib>
 #include <cstring>
@@ -6,14 +6,13 @@
 #include <netdb.h>
 #include <poll.h>
 #include <random>
+#ifdef AMQP1_TLS
+#include <csignal>
+#include <openssl/ssl.h>
+#include <openssl/x509v3.h>
+#endif
 #include <sys/socket.h>
 #include <unistd.h>
-
-namespace
-{
-
-// So long may headers, SASL and both Opens take, and so long may the server be silent, in milliseconds.
-constexpr std::uint32_t limit = 20000;
 
 std::uint64_t now()
 {
@@ -21,7 +20,6 @@ std::uint64_t now()
     return static_cast<std::uint64_t>(duration_cast<milliseconds>(steady_clock::now().time_since_epoch()).count());
 }
 
-// 16 bytes that no peer can guess.
 amqp::key a_key()
 {
     amqp::key key;
@@ -30,6 +28,12 @@ amqp::key a_key()
         it = static_cast<std::uint8_t>(random());
     return key;
 }
+
+namespace
+{
+
+// A message's header section, which says that it is durable (AMQP 1.0 part 3, section 3.2.1).
+constexpr std::uint8_t durable[] = {0x00, 0x53, 0x70, 0xc0, 0x02, 0x01, 0x41};
 
 int connect_to(const char *host, const char *port)
 {
@@ -47,90 +51,200 @@ int connect_to(const char *host, const char *port)
     }
     freeaddrinfo(found);
     if (socket < 0)
-        throw std::runtime_error("nobody listens");
+        throw lost("nobody listens");
     return socket;
+}
+
+// A socket to the server of a client's words.
+int connected(int count, char **words)
+{
+    if (count < 4 || count == 6 || count > 8)
+        throw std::runtime_error("usage: HOST PORT ADDRESS [COUNT [USER PASSWORD | CA CERTIFICATE KEY]]");
+    return connect_to(words[1], words[2]);
 }
 
 } // namespace
 
-client::client(int count, char **words, const char *name)
+#ifdef AMQP1_TLS
+// TLS with the server: its certificate has to be for the host, and of the authority of the first of these files; the
+// others are this side's certificate and its key.
+void peer::start_tls(const char *host, char **files)
 {
-    if (count < 4 || count == 6 || count > 7)
-        throw std::runtime_error("usage: HOST PORT ADDRESS [COUNT [USER PASSWORD]]");
-    const char *user = count == 7 ? words[5] : nullptr, *password = count == 7 ? words[6] : nullptr;
-    address = words[3];
-    messages = count > 4 ? static_cast<std::uint32_t>(std::atoi(words[4])) : 5;
-    engine = amqp::engine::client(a_key(), {now(), limit}, words[1], user, password, amqp::write_open(name, words[1]));
-    engine.open();
-    socket_ = connect_to(words[1], words[2]);
+    // OpenSSL writes without MSG_NOSIGNAL
+    std::signal(SIGPIPE, SIG_IGN);
+    SSL_CTX *context = SSL_CTX_new(TLS_client_method());
+    if (!context || SSL_CTX_load_verify_locations(context, files[0], nullptr) != 1 ||
+        SSL_CTX_use_certificate_file(context, files[1], SSL_FILETYPE_PEM) != 1 ||
+        SSL_CTX_use_PrivateKey_file(context, files[2], SSL_FILETYPE_PEM) != 1)
+        throw std::runtime_error("a certificate or a key cannot be read");
+    SSL_CTX_set_verify(context, SSL_VERIFY_PEER, nullptr);
+    tls_ = SSL_new(context);
+    SSL_CTX_free(context);
+    if (!tls_ || SSL_set1_host(tls_, host) != 1 || SSL_set_fd(tls_, socket_) != 1 || SSL_connect(tls_) != 1)
+        throw std::runtime_error("no TLS with the server");
 }
 
-client::~client() { close(socket_); }
-
-bool client::send(amqp::sender link, std::uint32_t number, const amqp::properties &says, amqp::bytes body)
+ssize_t peer::write_some(amqp::bytes from)
 {
-    std::uint8_t bytes[1024];
-    std::memcpy(bytes, &number, sizeof number);
-    amqp::written message = amqp::write_message({bytes + 4, sizeof bytes - 4}, says, body);
-    if (!message)
-        throw std::runtime_error("a message is too long");
-    amqp::told told = engine.link_send(link, 4, {bytes, 4 + message.text.size()}, number);
+    if (tls_)
+        return SSL_write(tls_, from.data(), static_cast<int>(from.size()));
+    return ::send(socket_, from.data(), from.size(), MSG_NOSIGNAL);
+}
+
+ssize_t peer::read_some(std::uint8_t *to, std::size_t room)
+{
+    return tls_ ? SSL_read(tls_, to, static_cast<int>(room)) : recv(socket_, to, room, 0);
+}
+
+// Whether there is something that TLS has read already.
+bool peer::has_read() { return tls_ && SSL_pending(tls_); }
+
+peer::~peer()
+{
+    SSL_free(tls_);
+    close(socket_);
+}
+#else
+void peer::start_tls(const char *, char **) { throw std::runtime_error("it is built without TLS"); }
+ssize_t peer::write_some(amqp::bytes from) { return ::send(socket_, from.data(), from.size(), MSG_NOSIGNAL); }
+ssize_t peer::read_some(std::uint8_t *to, std::size_t room) { return recv(socket_, to, room, 0); }
+bool peer::has_read() { return false; }
+peer::~peer() { close(socket_); }
+#endif
+
+client::client(int count, char **words, const char *name) : peer(connected(count, words))
+{
+    const char *user = count == 7 ? words[5] : nullptr, *password = count == 7 ? words[6] : nullptr;
+    auto open = amqp::write_open(name, words[1]);
+    address = words[3];
+    messages = count > 4 ? static_cast<std::uint32_t>(std::atoi(words[4])) : 5;
+    if (count == 8) {
+        start_tls(words[1], words + 5);
+        engine = amqp::engine::external(a_key(), {now(), limit}, words[1], "", open);
+    } else {
+        engine = amqp::engine::client(a_key(), {now(), limit}, words[1], user, password, open);
+    }
+    engine.open();
+}
+
+// An Attach, whose termini say more than an address: the lists of their fields.
+static amqp::link attach(client &it, const char *name, amqp1_role role, unsigned descriptor, unsigned long fields,
+                         const std::function<void(amqp1_text *)> &put)
+{
+    std::uint8_t room[1024];
+    amqp1_text text = amqp1_text_at(room, sizeof room);
+    std::size_t length, list, attach = amqp1_begin_list(&text, 0x12, 10);
+    amqp1_put_string(&text, name);
+    amqp1_put_uint(&text, it.engine.allot(0, role, AMQP1_FIRST, name));
+    amqp1_put_boolean(&text, role);
+    amqp1_put(&text, "\x40\x40", 2);
+    if (role == AMQP1_SENDER)
+        amqp1_put_terminus(&text, 0x28, name);
+    list = amqp1_begin_list(&text, descriptor, static_cast<std::uint32_t>(fields));
+    amqp1_put_string(&text, it.address);
+    put(&text);
+    amqp1_end_list(&text, list);
+    if (role == AMQP1_RECEIVER)
+        amqp1_put_terminus(&text, 0x29, name);
+    amqp1_put(&text, "\x40\x40\x43", 3);
+    amqp1_end_list(&text, attach);
+    if (amqp1_written(&text, &length) != AMQP1_DONE)
+        throw std::runtime_error("an address is too long");
+    return it.engine.link_attach(0, {room, length});
+}
+
+amqp::sender client::durable_sender(const char *name)
+{
+    return {attach(*this, name, AMQP1_SENDER, 0x29, 2, [](amqp1_text *text) { amqp1_put_uint(text, 2); })};
+}
+
+amqp::receiver client::browser(const char *name)
+{
+    return {attach(*this, name, AMQP1_RECEIVER, 0x28, 7, [](amqp1_text *text) {
+        amqp1_put(text, "\x40\x40\x40\x40\x40", 5);
+        amqp1_put_symbol(text, "copy");
+    })};
+}
+
+bool peer::send_bytes(amqp::sender link, std::uint32_t number, amqp::bytes message)
+{
+    std::string bytes(reinterpret_cast<const char *>(&number), 4);
+    bytes += message.text();
+    amqp::told told = engine.link_send(link, 4, bytes, number);
     if (!told && told.refusal != AMQP1_WHY_LINK_NO_CREDIT && told.refusal != AMQP1_WHY_LINK_NOT_ATTACHED)
         throw amqp::error(engine.place(), "amqp1_link_send", told.status);
     return static_cast<bool>(told);
 }
 
+bool client::send(amqp::sender link, std::uint32_t number, const amqp::properties &says, amqp::bytes body)
+{
+    std::uint8_t bytes[1024];
+    std::memcpy(bytes, durable, sizeof durable);
+    amqp::written message = amqp::write_message({bytes + sizeof durable, sizeof bytes - sizeof durable}, says, body);
+    if (!message)
+        throw std::runtime_error("a message is too long");
+    return send_bytes(link, number, {bytes, sizeof durable + message.text.size()});
+}
+
 // The error of a Detach, an End or a Close stands in its performative.
-void client::expect(const amqp::record &record, const amqp::event &event, amqp::bytes came)
+std::string peer::why(const amqp::record &record, amqp::bytes came)
 {
     std::uint8_t room[256];
-    if (!record.refusal && !record.has(AMQP1_FLAG_ERROR) && event.kind != AMQP1_EVENT_FAULT &&
-        record.kind != AMQP1_KIND_DETACHED && record.kind != AMQP1_KIND_ENDED && record.kind != AMQP1_KIND_CLOSED)
-        return;
     std::string why = std::string("what came: ") + record.name() + " ";
     if (record.refusal)
         why += engine.refusal_text(record.refusal, room);
     if (auto error = amqp::field(record.performative(came), record.kind == AMQP1_KIND_DETACHED ? 2 : 0);
         error && record.has(AMQP1_FLAG_ERROR))
         why += amqp::bytes_field(*error, AMQP1_ERROR_CONDITION).text();
-    throw std::runtime_error(why);
+    return why;
+}
+
+void client::before(const amqp::record &record, const amqp::event &event, amqp::bytes came)
+{
+    if (record.refusal || record.has(AMQP1_FLAG_ERROR) || event.kind == AMQP1_EVENT_FAULT ||
+        record.kind == AMQP1_KIND_DETACHED || record.kind == AMQP1_KIND_ENDED || record.kind == AMQP1_KIND_CLOSED)
+        throw std::runtime_error(why(record, came));
+    if (record.kind == AMQP1_KIND_OPENED)
+        engine.begin(0, amqp::write_begin());
 }
 
 // Tells the time, and writes what waits.
-void client::write()
+void peer::write()
 {
     std::uint8_t room[4096];
     next_tick_ = engine.tick(now()).next;
     for (amqp::written it = engine.output(room); it.text.size(); it = engine.output(room))
         for (amqp::bytes left = it.text; !left.empty();) {
-            ssize_t count = ::send(socket_, left.data(), left.size(), MSG_NOSIGNAL);
+            ssize_t count = write_some(left);
             if (count <= 0)
-                throw std::runtime_error("the server hung up");
+                throw lost("the peer hung up");
             left = left.from(static_cast<std::size_t>(count));
         }
 }
 
 // Whether something comes before the engine wants to be told the time.
-bool client::comes()
+bool peer::comes()
 {
+    if (has_read())
+        return true;
     pollfd it = {socket_, POLLIN, 0};
     std::uint64_t time = now(), left = next_tick_ > time ? next_tick_ - time : 0;
     int count = poll(&it, 1, static_cast<int>(left < limit ? left : limit));
     if (!count && left >= limit)
-        throw std::runtime_error("the server is silent");
+        throw lost("the peer is silent");
     return count > 0;
 }
 
-void client::read()
+void peer::read()
 {
-    ssize_t count = recv(socket_, came_ + length_, sizeof came_ - length_, 0);
+    ssize_t count = read_some(came_ + length_, sizeof came_ - length_);
     if (count <= 0)
-        throw std::runtime_error("the server hung up");
+        throw lost("the peer hung up");
     length_ += static_cast<std::size_t>(count);
 }
 
 // Hands each record on; what is answered goes out before the next ones are taken.
-void client::take(const handler &handle)
+void peer::take(const handler &handle)
 {
     amqp::record records[64];
     bool goes_on = true;
@@ -141,10 +255,8 @@ void client::take(const handler &handle)
             if (has_closed_)
                 continue;
             amqp::event event = engine.link_follow(record);
-            expect(record, event, came);
-            if (record.kind == AMQP1_KIND_OPENED)
-                engine.begin(0, amqp::write_begin());
-            if ((has_closed_ = handle(record, event, came)))
+            before(record, event, came);
+            if (!has_closed_ && (has_closed_ = handle(record, event, came)))
                 engine.close();
         }
         std::memmove(came_, came_ + took.taken, length_ -= took.taken);
@@ -153,7 +265,7 @@ void client::take(const handler &handle)
     }
 }
 
-void client::run(const handler &handle)
+void peer::run(const handler &handle)
 {
     for (write(); !engine.is_over(); write())
         if (comes()) {

@@ -1,6 +1,6 @@
 // Receives messages from an address of a server, accepts each, and closes: receive HOST PORT ADDRESS [COUNT [USER
-// PASSWORD]]. It gives credit for a hundred, which the library renews, so more may come than are awaited: those are not
-// accepted. See client.hpp.
+// PASSWORD | CA CERTIFICATE KEY]]. It gives credit for a hundred, which the library renews, so more may come than are
+// awaited: those are not accepted. See client.hpp.
 #include "client.hpp"
 
 static void receive(int count, char **words)

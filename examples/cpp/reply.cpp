@@ -1,5 +1,6 @@
-// Replies to requests at an address of a server, and closes: reply HOST PORT ADDRESS [COUNT [USER PASSWORD]]. Each
-// reply goes to the request's reply-to, with its message-id as the correlation-id. request.cpp asks. See client.hpp.
+// Replies to requests at an address of a server, and closes: reply HOST PORT ADDRESS [COUNT [USER PASSWORD | CA
+// CERTIFICATE KEY]]. Each reply goes to the request's reply-to, with its message-id as the correlation-id. request.cpp
+// asks. See client.hpp.
 #include "client.hpp"
 #include <deque>
 

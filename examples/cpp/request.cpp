@@ -1,6 +1,6 @@
 // Sends requests to an address of a server, has each replied to at ADDRESS.replies, and closes: request HOST PORT
-// ADDRESS [COUNT [USER PASSWORD]]. reply.cpp replies. A request's id comes back as the reply's correlation-id. See
-// client.hpp.
+// ADDRESS [COUNT [USER PASSWORD | CA CERTIFICATE KEY]]. reply.cpp replies. A request's id comes back as the reply's
+// correlation-id. See client.hpp.
 #include "client.hpp"
 
 static void request(int count, char **words)

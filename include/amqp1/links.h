@@ -10,8 +10,10 @@
    overtake these: it is answered AMQP1_HELD_BACK, and amqp1_link_due tells when it may be asked for again. A disposition does not wait: it is for
    deliveries that the peer has.
 
-   Beside its link, the session keeps a record of each unsettled delivery, of some 120 bytes. What either side settles goes, and what amqp1_link_left
-   tells. Of a delivery that is aborted, or settled by a later part, it stays until amqp1_settle names the number, or the session ends.
+   A Detach that is asked for before the peer's Attach has come is answered AMQP1_HELD_BACK too: AMQP1_EVENT_ATTACHED tells that it may be asked for again.
+
+   Beside its link, the session may keep a record of an unsettled delivery, of some 120 bytes. It goes where either side settles or aborts the delivery, and
+   with amqp1_link_respond and amqp1_link_left: so respond is called for each event.
 
        amqp1_event event;
        amqp1_sender(&engine, 0, "out", "queue", &link);                              -- in a session that has begun
@@ -54,7 +56,8 @@ enum amqp1_event_flag {
     AMQP1_EVENT_GIVEN = 16,    /* `given` is what was given with the delivery, which this part settles or aborts */
     AMQP1_EVENT_FOR_GOOD = 32, /* a Detach closes the link for good (section 2.6.6) */
     AMQP1_EVENT_RECEIVED = 64, /* the deliveries that are settled have come; else this side sent them */
-    AMQP1_EVENT_BY_PEER = 128  /* the peer has settled them; else this side has, in answer to a terminal outcome */
+    AMQP1_EVENT_BY_PEER = 128, /* the peer has settled them; else this side has, in answer to a terminal outcome */
+    AMQP1_EVENT_NUMBERED = 256 /* a transfer that is passed over, or at fault, names its delivery */
 };
 
 /* Where a link stands. */
@@ -101,7 +104,7 @@ typedef struct amqp1_event {
     uint32_t session; /* the session */
     uint32_t kind;    /* an amqp1_event_kind */
     uint32_t link;    /* the link, by this side's handle. AMQP1_NONE where it is of none, as where deliveries are settled */
-    uint32_t first;   /* of a part, the number of its delivery; of what is settled, the first one */
+    uint32_t first;   /* of a part, and with AMQP1_EVENT_NUMBERED, the number of its delivery; of what is settled, the first one */
     uint32_t last;    /* the same; of what is settled, the last one */
     uint32_t detail;  /* what is said above */
     uint32_t credit;  /* the link's after the event: so many deliveries may be begun, by this side or by the peer, while it is attached */
@@ -161,8 +164,8 @@ int32_t amqp1_link_event(amqp1 *place, const amqp1_record *record, uint64_t give
 int32_t amqp1_link_due(amqp1 *place, uint32_t session, amqp1_event *event);
 
 /* Sends what a link owes for an event, if it owes anything: a flow, where credit is to be renewed or the peer asked for one; a Detach, in answer to the
-   peer's, or for a fault. `available` is how many messages are ready to be sent on the link. Of deliveries that are settled, but not by the peer, the
-   session lets its records go. DONE; NOTHING where it owes nothing; HELD_BACK: it is owed still, and AMQP1_EVENT_DUE asks for it again; NO_MEMORY: ask
+   peer's, or for a fault. `available` is how many messages are ready to be sent on the link. Of deliveries that are settled, but not by the peer's
+   disposition, and of those that are passed over, the session lets its records go. DONE; NOTHING where it owes nothing; HELD_BACK: it is owed still, and AMQP1_EVENT_DUE asks for it again; NO_MEMORY: ask
    again; REFUSED: by a name that amqp1_refusal tells. */
 int32_t amqp1_link_respond(amqp1 *place, const amqp1_event *event, uint32_t available);
 
@@ -174,8 +177,8 @@ int32_t amqp1_link_flow(amqp1 *place, uint32_t session, uint32_t link, uint32_t 
 
 /* Sends a Detach of a link (section 2.6.5), which ends it for good where `closed` is not 0 (section 2.6.6), with an error (amqp1_write_error), or with none
    where `error_length` is 0. DONE; NOTHING where no end has the handle, or this side's was sent before. BAD_ARGUMENT: the bytes are no error.
-   HELD_BACK: transfers of the link wait for the peer's window, and would come on a link that is detached. NO_MEMORY, REFUSED. The link stands as before
-   then. */
+   HELD_BACK: transfers of the link wait for the peer's window, and would come on a link that is detached; or the peer's Attach is still to come. NO_MEMORY;
+   REFUSED, as TooLarge where the error does not fit the peer's frame: nothing is sent. The link stands as before then. */
 int32_t amqp1_link_detach(amqp1 *place, uint32_t session, uint32_t link, uint32_t closed, const uint8_t *error, size_t error_length);
 
 /* Sends a transfer on the link of `head` (sections 2.6.7 and 2.6.14): it begins a delivery where none is under way on the link, and takes one of its credit,

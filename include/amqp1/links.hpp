@@ -190,8 +190,8 @@ class basic_engine : public basic_connection<Errors>
         return ask_of("amqp1_drain", amqp1_drain(&place_, on.session, on.handle));
     }
 
-    // Detaches a link, unless transfers of it are held back (AMQP1_HELD_BACK); for good where `closed`, with an error
-    // where one is there.
+    // Detaches a link, unless transfers of it are held back, or the peer's Attach is still to come (AMQP1_HELD_BACK);
+    // for good where `closed`, with an error where one is there.
     whether link_detach(link on, bool closed = true, bytes why = {}) noexcept(is_quiet)
     {
         return ask_of("amqp1_link_detach",

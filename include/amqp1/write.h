@@ -32,7 +32,7 @@ extern "C" {
 #endif
 
 /* Bytes that are being written, and how many there are; the room is 0 once some did not fit, and `is_bad` 1 once one of
-   them had no form. For use within this header, as all that takes one. */
+   them had no form. For use within this header and by wrappers for other languages, as all that takes one. */
 typedef struct amqp1_text {
     uint8_t *at;
     size_t room, length;
@@ -310,7 +310,7 @@ AMQP1_FUNCTION AMQP1_CHECKED int32_t amqp1_write_transfer(uint8_t *out, size_t r
     return amqp1_written(&text, written);
 }
 
-/* A state without fields (AMQP 1.0 part 3, section 3.4). For use within this header. */
+/* A state without fields (AMQP 1.0 part 3, section 3.4). For use within this header and by wrappers. */
 AMQP1_FUNCTION void amqp1_put_outcome(amqp1_text *text, enum amqp1_outcome outcome)
 {
     amqp1_put_byte(text, 0x00);

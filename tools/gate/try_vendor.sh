@@ -35,6 +35,13 @@ are_whole() {
     [ -z "$(find "$dest" -name mutants -o -name 'must-*')" ]
 }
 
+# Whether each crate's line stands behind those of the crates that it names and that are there.
+stand_in_order() {
+    awk -F: '/^[a-z]/ { count = split($2, parts, " ")
+        for (at = 1; at <= count; at++) if (!(parts[at] in seen) && system("test -d " root "/" parts[at]) == 0) exit 1
+        seen[$1] = 1 }' root="$(dirname "$1")/crates" "$1"
+}
+
 # What the program has to print: the Open, as the canonical spelling has it.
 wanted() {
     python3 -c '
@@ -102,5 +109,10 @@ rm "$dest/crates/amqp_types" "$dest/crates.txt"
 holds "a folder of somebody else's is refused" eval '! tools/vendor.sh "$dest"'
 holds "and so is this repository" eval '! tools/vendor.sh .'
 holds "nothing of this repository is gone" test -e crates/amqp_types/src/lib.rt
+links=$dest/links
+holds "links and a transport are put there, with all that they stand on" tools/vendor.sh "$links" amqp_endpoints amqp_transport
+holds "these are among them" ls -d "$links"/crates/{amqp_endpoints,amqp_transport,amqp_driver,amqp_links,amqp_events,amqp_sasl,amqp_idle,fe2o3_amqp}
+holds "each has a line behind those that it stands on" stand_in_order "$links/crates.txt"
+holds "a crate that is none is refused" eval '! tools/vendor.sh "$dest/none" amqp_nothing'
 echo "$passed passed, $failed failed"
 [ "$failed" = 0 ]

@@ -20,8 +20,8 @@ LARGE = 2**31 - 1
 
 
 def frame(of, channel=0, payload=b""):
-    """A frame of a performative, or of its bytes."""
-    body = b"\x02\x00" + channel.to_bytes(2, "big") + (of if isinstance(of, bytes) else of.encode()) + payload
+    """A frame of a performative, or of its bytes: a peer does not write by this side's library."""
+    body = b"\x02\x00" + channel.to_bytes(2, "big") + (of if isinstance(of, bytes) else write(of.described())) + payload
     return (len(body) + 4).to_bytes(4, "big") + body
 
 

@@ -302,7 +302,8 @@ async def many_flush_and_the_heart_beats():
             connection._stream.write(EMPTY * 300_000)
             await asyncio.gather(*(connection.flush() for _ in range(5)))
         await asyncio.sleep(0.5)
-        assert not connection._beats.done(), connection._beats
+        beats = connection._beats
+        assert not beats.cancelled() and beats.when() > asyncio.get_running_loop().time() - 1, beats
         reads.cancel()
 
     await against(script, client, LONG)

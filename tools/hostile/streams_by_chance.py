@@ -2,6 +2,7 @@
 each message is somewhere or was settled, and no task, no link and no memory stays."""
 
 import asyncio
+import ctypes
 import gc
 import random
 import resource
@@ -23,7 +24,7 @@ from queues import BESIDE
 AT_ONCE, LONGEST, TESTS = 1, 200, []
 #: How many streams each test gives, and how many of them side by side
 STREAMS, AT_A_TIME = 2500, 50
-#: How many kilobytes the process may grow by, from the 1,000th stream on
+#: How many kilobytes the process may grow by, from the first 1,000 streams to the last 1,000: the least then, and the most before
 KILOBYTES = 4096
 
 
@@ -155,8 +156,9 @@ async def spoken(broker, chance, count):
 
 
 def kilobytes():
-    """Resident memory, once what is garbage is gone."""
+    """Resident memory, once what is garbage is gone, and what the C library keeps for later."""
     gc.collect()
+    ctypes.CDLL(None).malloc_trim(0)
     return int(Path("/proc/self/statm").read_text().split()[1]) * resource.getpagesize() // 1024
 
 
@@ -196,14 +198,14 @@ async def still_other_streams_with_changed_bytes_leave_nothing():
 
 
 async def leave_nothing(seed):
-    chance, broker, kinds, before, tasks = random.Random(seed), Broker(), {}, 0, len(asyncio.all_tasks())
-    for at in range(STREAMS // 500):
+    chance, broker, kinds, held, tasks = random.Random(seed), Broker(), {}, [], len(asyncio.all_tasks())
+    for _ in range(STREAMS // 500):
         for name, count in (await spoken(broker, chance, 500)).items():
             kinds[name] = kinds.get(name, 0) + count
         look_at(broker.queues)
         clear(broker.queues)
-        before = kilobytes() if at == 1 else before
-    left, objects = kilobytes() - before, sum(isinstance(it, (Served, Client)) for it in gc.get_objects())
+        held.append(kilobytes())
+    left, objects = min(held[-2:]) - max(held[:2]), sum(isinstance(it, (Served, Client)) for it in gc.get_objects())
     assert (left < KILOBYTES, objects, len(asyncio.all_tasks())) == (True, 0, tasks), (left, objects)
     # the streams reach what they are for: many end by a refusal, and many do not
     assert STREAMS // 10 < kinds["Refusal"] < STREAMS * 9 // 10, kinds

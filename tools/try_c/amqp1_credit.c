@@ -152,7 +152,7 @@ static void try_less_credit(void)
 {
     meet_by_link(5, 10, 0);
     CHECK(sends_one(&client, 0, 0, 0) && amqp1_grant(&server.engine, SERVERS, 0, 0) == AMQP1_DONE && credit_of(&server, 0) == 0);
-    CHECK(passes(&client, &server) == 1 && is_event(&server, 0, AMQP1_EVENT_FAULT, 0, AMQP1_FAULT_OVER_CREDIT, 0, 0));
+    CHECK(passes(&client, &server) == 1 && is_event(&server, 0, AMQP1_EVENT_FAULT, 0, AMQP1_FAULT_OVER_CREDIT, 0, AMQP1_EVENT_NUMBERED));
     part();
 }
 

@@ -126,7 +126,7 @@ static void try_crossing(void)
     CHECK(passes(&server, &client) == 2 && is_event(&client, 0, AMQP1_EVENT_ATTACHED, 0, AMQP1_LIFE_ATTACHED, 0, 0) && credit_of(&client, 0) == 10);
     CHECK(sends_one(&client, 0, 0, 0) && amqp1_link_detach(&client.engine, CLIENTS, 0, 1, key, 0) == AMQP1_DONE);
     CHECK(amqp1_grant(&server.engine, SERVERS, 0, 20) == AMQP1_DONE && amqp1_link_detach(&server.engine, SERVERS, 0, 1, key, 0) == AMQP1_DONE);
-    CHECK(passes(&client, &server) == 2 && is_event(&server, 0, AMQP1_EVENT_PASSED_OVER, 0, 0, 20, 0));
+    CHECK(passes(&client, &server) == 2 && is_event(&server, 0, AMQP1_EVENT_PASSED_OVER, 0, 0, 20, AMQP1_EVENT_NUMBERED));
     CHECK(is_event(&server, 1, AMQP1_EVENT_ENDED, 0, AMQP1_END_ANSWERED, 20, AMQP1_EVENT_FOR_GOOD));
     CHECK(passes(&server, &client) == 2 && is_event(&client, 0, AMQP1_EVENT_FLOW, 0, 0, 9, 0));
     CHECK(is_event(&client, 1, AMQP1_EVENT_ENDED, 0, AMQP1_END_ANSWERED, 9, AMQP1_EVENT_FOR_GOOD));

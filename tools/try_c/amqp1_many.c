@@ -1,5 +1,5 @@
 /* Tests of libamqp1: 10,000 deliveries each way on links with a credit of 100, settled, unsettled and in parts: each is given back once, and nothing is
-   left. After the first 2,000 the heap of both engines grows by 8 KiB at most, less than half a byte for each delivery. */
+   left. After the first 2,000 the heap of both engines grows by 8 KiB at most, less than half a byte for each delivery. And 2,000 that are aborted. */
 #include "amqp1_faces.h"
 #include <malloc.h>
 
@@ -115,9 +115,50 @@ static int is_left(face *it)
            amqp1_link_left_of(&it->engine, it->session, AMQP1_RECEIVER, &delivery) != AMQP1_NOTHING;
 }
 
+/* The client sends, and the server receives, and settles second: so its session keeps a record of each delivery that is under way. */
+static void start_second(void)
+{
+    uint8_t attach[128];
+    uint32_t link = 99;
+    size_t length = attach_text(attach, sizeof attach, "out", AMQP1_RECEIVER, "q", "q", 0);
+    meet();
+    CHECK(amqp1_sender(&client.engine, CLIENTS, "out", "q", &link) == AMQP1_DONE && link == 0);
+    passes(&client, &server);
+    CHECK(amqp1_link_on(&server.engine, SERVERS, server.wanted.input, AMQP1_RECEIVER, AMQP1_SECOND, "out", &link) == AMQP1_DONE);
+    CHECK(amqp1_link_attach(&server.engine, SERVERS, attach, length, attach, 0, 5, 10, &link) == AMQP1_DONE && link == 0);
+    CHECK(amqp1_link_wanted(&server.engine, &server.wanted, 0, server.events) == AMQP1_DONE);
+    CHECK(amqp1_link_respond(&server.engine, server.events, 0) == AMQP1_DONE && passes(&server, &client) == 2);
+}
+
+/* So many deliveries are begun and aborted. */
+static void abort_up_to(uint32_t *number, uint32_t end)
+{
+    amqp1_told told;
+    for (; *number < end; ++*number) {
+        EACH(sends_part(&client, 0, AMQP1_FLAG_MORE, 20, 7, &told) == AMQP1_DONE && is_told(&told, *number, 0, 0, 0));
+        EACH(passes(&client, &server) == 1);
+        EACH(sends_part(&client, 0, AMQP1_FLAG_ABORTED, 0, 7, &told) == AMQP1_DONE && is_told(&told, *number, 0, 1, 7));
+        EACH(passes(&client, &server) == 1 && (server.events[0].flags & AMQP1_EVENT_ABORTED) && (server.events[0].flags & AMQP1_EVENT_GIVEN));
+        passes(&server, &client);
+    }
+}
+
+static void try_aborted(void)
+{
+    uint32_t number = 0;
+    size_t before;
+    start_second();
+    abort_up_to(&number, 200);
+    before = held();
+    abort_up_to(&number, FEW);
+    CHECK(held() <= before + MORE);
+    part();
+}
+
 void try_many(void)
 {
     size_t before;
+    try_aborted();
     start_links();
     go(FEW);
     before = held();

@@ -105,16 +105,21 @@ each_refused() {
 examples() {
     cc -std=c99 "${strict[@]}" "${sanitized[@]}" examples/c/amqp1_server.c examples/c/amqp1_server_io.c "$library/libamqp1.a" -o "$folder/server" &&
         cc -std=c99 "${strict[@]}" "${sanitized[@]}" examples/c/amqp1_idle.c "$library/libamqp1.a" -o "$folder/idle" &&
-        for it in send sender receiver listener; do
-            cc -std=c99 "${strict[@]}" "${sanitized[@]}" "examples/c/amqp1_$it.c" examples/c/amqp1_{socket,serving}.c "$library/libamqp1.a" -o "$folder/$it" || return 1
+        for it in send sender receiver requester replier browser listener; do
+            cc -std=c99 "${strict[@]}" "${sanitized[@]}" "examples/c/amqp1_$it.c" examples/c/amqp1_{message,socket,serving}.c "$library/libamqp1.a" \
+                -o "$folder/$it" || return 1
         done
 }
 
 # The examples in C++.
 cpp_examples() {
     local it
-    for it in send receive request reply; do
-        c++ -std=c++17 "${strict[@]}" "${sanitized[@]}" "examples/cpp/$it.cpp" examples/cpp/client.cpp "$library/libamqp1.a" -o "$folder/cpp_$it" || return 1
+    for it in client serving; do
+        c++ -std=c++17 "${strict[@]}" "${sanitized[@]}" -c "examples/cpp/$it.cpp" -o "$folder/$it.o" || return 1
+    done
+    for it in send receive request reply browse resend server; do
+        c++ -std=c++17 "${strict[@]}" "${sanitized[@]}" "examples/cpp/$it.cpp" "$folder"/{client,serving}.o "$library/libamqp1.a" \
+            -o "$folder/cpp_$it" || return 1
         [ "$(grep -v -e '^//' -e '^#include' "examples/cpp/$it.cpp" | grep -c .)" -le 40 ] || { echo "$it.cpp" && return 1; }
     done
 }
@@ -134,10 +139,39 @@ cpp_served() {
     timeout 60 "$folder/cpp_request" 127.0.0.1 "$port" r 500 && wait "$replies" && wait "$server" && [ ! -s "$folder/server.log" ]
 }
 
-# The smallest examples have at most 25 lines of code: without what stands before the first line of it, and empty lines.
+# The server in C++: what one client sends is shown to the next one, and the third one receives it. Whether it listens is looked up.
+served_by_cpp() {
+    local port=$1 server
+    timeout 60 "$folder/cpp_server" "$port" 4 &
+    server=$!
+    for _ in $(seq 50); do
+        ! grep -qi ":$(printf %04X "$port") 00000000:0000 0A" /proc/net/tcp || break
+        sleep 0.1
+    done
+    timeout 60 "$folder/cpp_resend" 127.0.0.1 "$port" q 500 && timeout 60 "$folder/cpp_browse" 127.0.0.1 "$port" q 500 >"$folder/shown" &&
+        timeout 60 "$folder/browser" 127.0.0.1 "$port" q 500 | diff "$folder/shown" - && seq -f 'message %.0f' 0 499 | diff - "$folder/shown" &&
+        timeout 60 "$folder/receiver" 127.0.0.1 "$port" q 500 | tail -n 1 && wait "$server"
+}
+
+# Requests and replies in C, by the server in C.
+asked_in_c() {
+    local port=$1 server replies
+    timeout 60 "$folder/server" "$port" 3 >"$folder/server.log" 2>&1 &
+    server=$!
+    for _ in $(seq 50); do
+        ! (: <"/dev/tcp/127.0.0.1/$port") 2>"$folder/none" || break
+        sleep 0.1
+    done
+    timeout 60 "$folder/replier" 127.0.0.1 "$port" r 500 &
+    replies=$!
+    timeout 60 "$folder/requester" 127.0.0.1 "$port" r 500 && wait "$replies" && wait "$server" && [ ! -s "$folder/server.log" ]
+}
+
+# The smallest examples have at most 25 lines of code, and the others 40: without what stands before the first line of it, and empty lines.
 are_short() {
-    for it in sender receiver; do
-        [ "$(sed '1,/\*\/$/d' "examples/c/amqp1_$it.c" | grep -v '^#include' | grep -c .)" -le 25 ] || { echo "amqp1_$it.c" && return 1; }
+    local it
+    for it in sender:25 receiver:25 requester:40 replier:40 browser:40 listener:40; do
+        [ "$(sed '1,/\*\/$/d' "examples/c/amqp1_${it%:*}.c" | grep -v '^#include' | grep -c .)" -le "${it#*:}" ] || { echo "amqp1_${it%:*}.c" && return 1; }
     done
 }
 
@@ -213,12 +247,14 @@ if has clang "libFuzzer, for $seconds seconds" && [ -e "$(clang -print-file-name
     holds "any bytes, for $seconds seconds" fuzzed
 fi
 holds "the examples" examples
-holds "25 lines of code of each of the smallest" are_short
+holds "25 lines of code of each of the smallest, and 40 of the others" are_short
 holds "an hour of idle connections" idled
 holds "500 messages each way, between the examples" served $port "$folder/server $port 2" "$folder/send 127.0.0.1 $port q 500"
 holds "50 messages each way by PLAIN and by ANONYMOUS, between the small examples" logged_in $((port += 1)) sender receiver
 holds "the examples in C++, of at most 40 lines of code each" cpp_examples
 holds "500 messages and 500 requests, between the examples in C++" cpp_served $((port += 1))
+holds "500 requests, between the examples in C" asked_in_c $((port += 1))
+holds "500 messages are shown twice and received, by the server in C++" served_by_cpp $((port += 1))
 holds "50 messages each way by PLAIN and by ANONYMOUS, of the examples in C++" logged_in $((port += 1)) cpp_send cpp_receive
 proton=(/usr/bin/python3 tools/try_c/amqp1_proton.py)
 if "${proton[0]}" -c 'import proton' 2>"$folder/said"; then

@@ -66,6 +66,28 @@ static void try_answer_waits(void)
     part();
 }
 
+/* A Detach waits for the peer's Attach; and one whose error does not fit the peer's frame is not sent. */
+static void try_early(void)
+{
+    uint8_t text[1200];
+    char why[1100];
+    uint32_t link = 99;
+    size_t length;
+    meet();
+    CHECK(amqp1_sender(&client.engine, CLIENTS, "out", "q", &link) == AMQP1_DONE && link == 0);
+    CHECK(amqp1_link_detach(&client.engine, CLIENTS, 0, 1, key, 0) == AMQP1_HELD_BACK && passes(&client, &server) == 0);
+    CHECK(amqp1_link_due(&client.engine, CLIENTS, &due) == AMQP1_NOTHING && answers_link(&server, "out", AMQP1_RECEIVER, 0, 0, 0) == 0);
+    CHECK(passes(&server, &client) == 1 && is_event(&client, 0, AMQP1_EVENT_ATTACHED, 0, AMQP1_LIFE_ATTACHED, 0, 0));
+    memset(why, 'x', sizeof why - 1);
+    why[sizeof why - 1] = 0;
+    CHECK(amqp1_write_error(text, sizeof text, &length, "amqp:internal-error", why) == AMQP1_DONE);
+    CHECK(amqp1_link_detach(&client.engine, CLIENTS, 0, 1, text, length) == AMQP1_REFUSED && passes(&client, &server) == 0);
+    CHECK(amqp1_link_detach(&client.engine, CLIENTS, 0, 1, key, 0) == AMQP1_DONE && passes(&client, &server) == 1);
+    CHECK(is_event(&server, 0, AMQP1_EVENT_ENDED, 0, AMQP1_END_BY_PEER, 0, AMQP1_EVENT_FOR_GOOD) && passes(&server, &client) == 1);
+    CHECK(is_event(&client, 0, AMQP1_EVENT_ENDED, 0, AMQP1_END_ANSWERED, 0, AMQP1_EVENT_FOR_GOOD));
+    part();
+}
+
 /* Deliveries are rejected, by a Disposition; and a terminal outcome that leaves the settlement to this side is answered. */
 static void try_dispose(void)
 {
@@ -115,6 +137,7 @@ void try_waiting(void)
     try_detach_waits();
     try_drain_waits();
     try_answer_waits();
+    try_early();
     try_dispose();
     try_name();
 }

@@ -56,6 +56,17 @@ served() {
     timeout 60 "$built/request" "$at" r 500 && wait "$replies" && wait "$server" && [ ! -s "$folder/server.log" ]
 }
 
+# The same by the server in Rust.
+served_by_rust() {
+    local server replies at=127.0.0.1:$((port += 1))
+    timeout 60 "$built/server" "$port" 4 &
+    server=$!
+    listens "$port" && timeout 60 "$built/send" "$at" q 500 && timeout 60 "$built/receive" "$at" q 500 || return 1
+    timeout 60 "$built/reply" "$at" r 500 &
+    replies=$!
+    timeout 60 "$built/request" "$at" r 500 && wait "$replies" && wait "$server"
+}
+
 # The listener in C lets the one in by PLAIN, and the other by ANONYMOUS.
 logged_in() {
     local listener at=127.0.0.1:$((port += 1))
@@ -86,6 +97,7 @@ if has cargo "the crate for Rust"; then
     fi
     holds "40 lines of code of each example" are_short
     holds "500 messages and 500 requests, between its examples" served
+    holds "500 messages and 500 requests, by the server in Rust" served_by_rust
     holds "50 messages each way by PLAIN and by ANONYMOUS" logged_in
 fi
 echo "$passed passed, $failed failed"

@@ -19,19 +19,24 @@ from amqp_engine import (
 )  # fmt: skip
 from amqp_engine.driver import FORMATTED, MORE, NONE, NUMBERED
 from amqp_engine.library import How, LoginHead, Place, load
+from amqp_engine.values import write
 from hostile.peers import frame
 from shared.command import command
 from try_c.try_c_chances import TESTS as BY_CHANCE
 from try_c.try_c_clients import TESTS as OF_CLIENTS
 from try_c.try_c_cuts import TESTS as OF_CUTS
+from try_c.try_c_docstrings import TESTS as OF_DOCSTRINGS
 from try_c.try_c_links import TESTS as OF_LINKS
+from try_c.try_c_memory import TESTS as OF_MEMORY
 from try_c.try_c_messages import TESTS as OF_MESSAGES
 from try_c.try_c_pair import Pair, frames, mapped, refused
 from try_c.try_c_served import TESTS as OF_SERVED
 from try_c.try_c_serving import TESTS as OF_SERVING
 from try_c.try_c_sockets import OPEN, TESTS as OVER_SOCKETS
 from try_c.try_c_streams import TESTS as OF_STREAMS
+from try_c.try_c_tls import TESTS as OVER_TLS
 from try_c.try_c_values import TESTS as OF_VALUES
+from try_c.try_c_written import TESTS as WRITTEN
 
 TESTS = []
 
@@ -191,7 +196,7 @@ def deliveries_go_there_and_are_settled():
     assert [type(it) for it in came] == [Transferred] * len(came) and len(came) == 5, came
     assert [(it.transfer.delivery_id, it.transfer.delivery_tag, it.transfer.more) for it in came[:2]] == [(0, b"a", None), (1, b"b", True)], came
     assert b"".join(it.payload for it in came[1:]) == bytes(1500) and not came[-1].transfer.more
-    assert all(len(it.transfer.encode()) + len(it.payload) <= 504 for it in came)
+    assert all(len(write(it.transfer.described())) + len(it.payload) <= 504 for it in came)
     pair.server.engine.disposition(0, Disposition(RECEIVER, 0, 1, settled=True, state=ACCEPTED))
     told = pair.carry()[0]
     assert told == [Disposed(0, None, None, RECEIVER, True, ACCEPTED, 0, 1)], told
@@ -394,8 +399,8 @@ def main():
     if len(sys.argv) != 2:
         sys.exit(__doc__.strip())
     os.environ["AMQP_LIBRARY"] = str(Path(sys.argv[1]).resolve())
-    failed, tests = 0, OF_VALUES + OF_MESSAGES + TESTS + OF_CUTS + OF_LINKS + BY_CHANCE + OF_STREAMS + OVER_SOCKETS
-    tests += OF_CLIENTS + OF_SERVING + OF_SERVED
+    failed, tests = 0, OF_VALUES + WRITTEN + OF_MESSAGES + TESTS + OF_CUTS + OF_LINKS + BY_CHANCE + OF_STREAMS + OVER_SOCKETS
+    tests += OF_CLIENTS + OF_SERVING + OF_SERVED + OVER_TLS + OF_MEMORY + OF_DOCSTRINGS
     for it in tests:
         try:
             it()

@@ -23,10 +23,10 @@ counts "libamqp1 from C" tools/try_c/amqp1_try.sh "$prefix" "${FUZZ_SECONDS:-60}
 cc -g -O1 "${strict[@]}" tools/try_c/amqp1_{resident,bytes}.c "$library/libamqp1.a" -o "$folder/resident"
 counts "what engines hold" timeout 120 "$folder/resident"
 counts "the crate for Rust" timeout 900 tools/try_c/rust_try.sh "$prefix"
-counts "over Python" timeout 600 python3 tools/try_c/try_c.py "$library/libamqp1.so"
+counts "over Python" timeout 1200 python3 tools/try_c/try_c.py "$library/libamqp1.so"
 counts "hostile peers, over Python" timeout 900 python3 tools/hostile/hostile.py "$library/libamqp1.so"
 counts "what is refused of recorded connections" timeout 600 python3 tools/try_c/try_c_captures.py "$library/libamqp1.so"
 counts "links of recorded connections" timeout 120 python3 tools/try_c/try_c_links_recorded.py "$library/libamqp1.so"
-counts "the wheel and the sdist" timeout 600 python3 tools/try_c/try_c_wheel.py "$prefix"
+counts "the wheel and the sdist" timeout 1200 python3 tools/try_c/try_c_wheel.py "$prefix"
 echo "$passed passed, $failed failed"
 [ "$failed" = 0 ]

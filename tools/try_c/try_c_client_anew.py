@@ -40,12 +40,14 @@ class Brokers:
 
 
 async def across(brokers, resend, count=2000):
-    """Sends so many messages while the broker is killed and started again: what came, and what sends told."""
+    """Sends so many messages while the broker is killed and started again: what came, what sends told, and which of
+    them had told by then."""
     came, told = [], {}
     url = f"amqp://127.0.0.1:{brokers.port}/"
     how = {"reconnect": Backoff(0.05, 0.2), "resend": resend}
     async with connect(url, **how) as connection, connection.sender("q") as sender:
-        receiver = await connection.receiver("q", credit=20)
+        receiver, lost = await connection.receiver("q", credit=20), asyncio.Event()
+        connection.on_lost = lambda error: lost.set()
 
         async def takes():
             while True:
@@ -65,13 +67,15 @@ async def across(brokers, resend, count=2000):
         while len(told) < count // 2:
             await asyncio.sleep(0.001)
         await brokers.kill()
+        await lost.wait()
         await asyncio.sleep(0.1)
+        before = set(told)
         await brokers.start()
         await asyncio.gather(*sending)
         with contextlib.suppress(asyncio.TimeoutError):
             await asyncio.wait_for(idle(came), 20)
         taking.cancel()
-    return came, told
+    return came, told, before
 
 
 async def idle(came):
@@ -85,11 +89,11 @@ async def idle(came):
 @test
 async def messages_are_sent_anew_on_another_connection():
     async with Brokers() as brokers:
-        came, told = await across(brokers, True)
+        came, told, before = await across(brokers, True)
     # what the broker had accepted and had not handed out went with it: it keeps its queues in memory
     kinds = set(map(type, told.values()))
     assert sorted(told) == list(range(2000)) and kinds == {Accepted}, kinds
-    assert len(came) >= 1000 and set(came) <= set(range(2000))
+    assert set(range(2000)) - before <= set(came) <= set(range(2000)), (len(came), len(before))
 
 
 @test

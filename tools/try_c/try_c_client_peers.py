@@ -13,13 +13,13 @@ from hostile.peers import HEADER, LARGE, frame, listens
 WAITS = Waits(login=5.0, answer=0.5, reading=0.5, closing=0.2)
 
 
-def tests():
-    """A list of tests, and what puts one in it."""
+def tests(seconds=60):
+    """A list of tests, and what puts one in it, which may take so long."""
     listed = []
 
     def test(function):
         def run():
-            asyncio.run(asyncio.wait_for(function(), 60))
+            asyncio.run(asyncio.wait_for(function(), seconds))
 
         run.__name__ = function.__name__
         listed.append(run)

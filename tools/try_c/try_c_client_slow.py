@@ -137,6 +137,30 @@ async def a_peer_asks_a_sender_to_drain():
 
 
 @test
+async def little_waits_in_the_library_for_the_window_and_all_of_it_goes_in_order():
+    came = []
+
+    async def script(peer):
+        await attach(peer)
+        # credit for all, and a window of five transfers
+        peer.send(grants(0, 1000, incoming=5))
+        await asyncio.sleep(0.3)
+        waited.append(len(senders[0]._waiting))
+        peer.send(grants(0, 1000, incoming=LARGE))
+        while len(came) < 1000:
+            of = await peer.until(0x14)
+            came.append(int(of[-4:]))
+        peer.send(settles(0, ACCEPTED, last=999))
+
+    waited, senders = [], []
+    async with against(script) as connection, connection.sender("q") as sender:
+        senders.append(sender)
+        told = await asyncio.gather(*(sender.send(b"%0300d" % at, timeout=20) for at in range(1000)))
+    # as much as one turn of the loop asks for, twice: some 130 kB of 300
+    assert came == list(range(1000)) and told == [Accepted()] * 1000 and 550 < waited[0] < 996, (came[:10], waited)
+
+
+@test
 async def a_detach_does_not_overtake_what_the_window_holds_back():
     async def script(peer):
         await attach(peer)

@@ -14,7 +14,7 @@ from amqp_engine.driver import (
 )  # fmt: skip
 from amqp_engine.linking import (
     END_ANSWERED, END_BY_PEER, END_REFUSED, EVENT_ABORTED, EVENT_ATTACHED, EVENT_BY_PEER, EVENT_ENDED, EVENT_FAULT, EVENT_FIRST, EVENT_FLOW, EVENT_FOR_GOOD,
-    EVENT_GIVEN, EVENT_LAST, EVENT_NOTHING, EVENT_PART, EVENT_PASSED_OVER, EVENT_PRESETTLED, EVENT_RECEIVED, EVENT_SETTLED, FAULT_COUNT_PAST_LIMIT,
+    EVENT_GIVEN, EVENT_LAST, EVENT_NOTHING, EVENT_NUMBERED, EVENT_PART, EVENT_PASSED_OVER, EVENT_PRESETTLED, EVENT_RECEIVED, EVENT_SETTLED, FAULT_COUNT_PAST_LIMIT,
     FAULT_NONE_UNDER_WAY, FAULT_NO_NUMBER, FAULT_NO_TAG, FAULT_OTHER_DELIVERY, FAULT_OVER_CREDIT, FAULT_TOO_LARGE, LIFE_ATTACHED, LIFE_REFUSED,
     WHY_LINK_NONE_UNDER_WAY, WHY_LINK_NOT_ATTACHED, WHY_LINK_NO_CREDIT, WHY_LINK_NO_SENDER, WHY_LINK_TOO_LARGE, WISH_ANSWER, WISH_DRAIN, WISH_GRANT,
     WISH_RENEW, LinkEvent, Told, Unsettled,
@@ -149,7 +149,7 @@ def a_sender_past_its_credit_is_ended():
     # by the call that knows nothing of links
     ends.client.transfer(OURS, Transfer(mine, delivery_tag=b"t"), b"hello")
     ((_, event, owed),) = ends.carry(ends.client, ends.server)
-    assert event == LinkEvent(0, 0, THEIRS, EVENT_FAULT, theirs, 0, 0, FAULT_OVER_CREDIT, 0, 0) and owed, event
+    assert event == LinkEvent(0, 0, THEIRS, EVENT_FAULT, theirs, 0, 0, FAULT_OVER_CREDIT, 0, EVENT_NUMBERED) and owed, event
     data = ends.server.to_send()
     assert Detach.decode(data[8:]) == Detach(theirs, True, Error("amqp:link:transfer-limit-exceeded"))
     (record,) = ends.client.take(data).records

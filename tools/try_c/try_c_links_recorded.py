@@ -160,9 +160,13 @@ class Side(Asking):
             return self.fault(link, event, refused.name, refused.condition)
         self.event(event, linking.EVENT_FLOW, link, detail=used)
 
-    def fault(self, link, event, name, condition):
+    def named(self, number):
+        """What an event says of the delivery of a transfer that is passed over, or at fault."""
+        return {} if number is None else {"first": number, "last": number, "flags": linking.EVENT_NUMBERED}
+
+    def fault(self, link, event, name, condition, number=None):
         """The peer did what it may not do: this side ends the link for it, and what comes behind it is passed over."""
-        self.event(event, linking.EVENT_FAULT, link, detail=1 + FAULTS.index(name))
+        self.event(event, linking.EVENT_FAULT, link, detail=1 + FAULTS.index(name), **self.named(number))
         self.note(f"a fault of the peer, {name}: this side detaches")
         self.said()
         self.check("whether a Detach is owed", self.driver.link_respond(event), True)
@@ -181,7 +185,7 @@ class Side(Asking):
         try:
             told, back = session.model.on_transfer(link.handle, part, self.given)
         except Refused as refused:
-            return self.refused_part(link, event, refused.name, refused.condition)
+            return self.refused_part(link, event, refused.name, refused.condition, part["number"])
         link.tag = tag if is_first else link.tag
         number, _, how, is_settled, size = told
         says = {linking.EVENT_FIRST: is_first, linking.EVENT_LAST: how == "Last", linking.EVENT_ABORTED: how == "Aborted"}
@@ -189,11 +193,11 @@ class Side(Asking):
         flags = sum(flag for flag, is_so in says.items() if is_so)
         self.event(event, linking.EVENT_PART, link, given=back or 0, size=size, first=number, last=number, flags=flags)
 
-    def refused_part(self, link, event, name, condition):
+    def refused_part(self, link, event, name, condition, number):
         if name.startswith("Link(Fault("):
-            return self.fault(link, event, name[len("Link(Fault(") : -2], condition)
+            return self.fault(link, event, name[len("Link(Fault(") : -2], condition, number)
         self.note("a transfer on a link that is not attached")
-        return self.event(event, linking.EVENT_PASSED_OVER, link)
+        return self.event(event, linking.EVENT_PASSED_OVER, link, **self.named(number))
 
     def on_disposition(self, session, frame, _, event):
         is_receiver, state = frame["role"] is True, frame["state"] and frame["state"]["desc"]

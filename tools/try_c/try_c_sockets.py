@@ -173,8 +173,7 @@ def a_watcher_tells_what_breaks_the_protocol():
         reader, writer = await asyncio.open_connection("127.0.0.1", port)
         writer.write(b"AMQP\x00\x01\x00\x00")
         for of in (OPEN, Begin(), Flow(0, 8, 0, 8, handle=5)):
-            body = b"\x02\x00\x00\x00" + of.encode()
-            writer.write((len(body) + 4).to_bytes(4, "big") + body)
+            writer.write(frame(of))
             await asyncio.sleep(0.3)
         writer.close()
 

@@ -95,6 +95,7 @@ def performatives_are_read_as_they_were_written():
         Disposition(RECEIVER, 3, 5, True, rejected(Error("amqp:not-found"))), Detach(3, True, Error("amqp:internal-error", "no", {})), Close(Error("a:b")),
     ]:  # fmt: skip
         assert type(it).decode(it.encode()) == it, it
-    assert Open("a", max_frame_size=None).encode() == bytes.fromhex("005310c00401a10161") and Close().encode() == bytes.fromhex("00531845")
+    assert Open("a", max_frame_size=None).encode() == bytes.fromhex("005310d00000000700000001a10161")
+    assert Close().encode() == bytes.fromhex("005318d00000000400000000")
     assert Open("a").max_frame_size == 1048576 and Open.decode(Open("a", max_frame_size=None).encode()).max_frame_size is None
     assert body_of(data(b"hello")) == b"hello" and address_of(target("q")) == "q" and address_of(source()) is None

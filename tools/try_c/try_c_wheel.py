@@ -3,8 +3,8 @@
 
     tools/try_c/try_c_wheel.py PREFIX
 
-PREFIX is what tools/build_c.sh made. The wheel is installed into fresh virtual environments, without a network, of the oldest Python from 3.9 on and
-of the newest one that are found: on the path, and below PYENV_ROOT. There the lines of README.md run without AMQP_LIBRARY. What is not tried for want
+PREFIX is what tools/build_c.sh made. The wheel is installed into fresh virtual environments, without a network, of each minor version of
+Python from 3.9 on that is found: on the path, and below PYENV_ROOT. There the lines of README.md run without AMQP_LIBRARY. What is not tried for want
 of a program is named, a line each. The last line is 'N passed, M failed'.
 """
 
@@ -86,7 +86,7 @@ class Tried:
             (folder / name).mkdir()
         self.built = Built(folder / "first", prefix)
         self.again = Built(folder / "second", prefix, TZ="Asia/Tokyo", LC_ALL="C", PYTHONHASHSEED="7")
-        self.pythons = oldest_and_newest()
+        self.pythons = one_of_each_minor()
         self.places = [self.place(path, version) for version, path in self.pythons]
 
     def place(self, path, version):
@@ -101,8 +101,8 @@ class Tried:
         return self.folder / name / "bin" / "python"
 
 
-def oldest_and_newest():
-    """Two interpreters, or one, by their versions: those that can make a virtual environment with pip."""
+def one_of_each_minor():
+    """An interpreter of each minor version from 3.9 on, by their versions: those that can make a virtual environment with pip."""
     pyenv = Path(os.environ.get("PYENV_ROOT") or Path.home() / ".pyenv")
     paths = [*filter(None, (shutil.which(f"python3.{minor}") for minor in range(9, 40))), *sorted(pyenv.glob("versions/*/bin/python3")), sys.executable]
     found = {}
@@ -111,10 +111,10 @@ def oldest_and_newest():
         done = subprocess.run(asked, stdout=subprocess.PIPE, stderr=subprocess.DEVNULL, env=ENVIRONMENT)
         version = tuple(map(int, done.stdout.split())) if done.returncode == 0 else (0,)
         if version >= (3, 9):
-            found.setdefault(version, path)
+            found.setdefault(version[:2], (version, path))
     if not found:
         print("not tried, since no Python has venv and ensurepip (Debian's python3-venv): the wheel, installed")
-    return [(".".join(map(str, version)), found[version]) for version in sorted({min(found), max(found)} if found else ())]
+    return [(".".join(map(str, version)), path) for version, path in sorted(found.values())]
 
 
 def has(program, what):

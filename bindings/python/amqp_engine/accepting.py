@@ -10,7 +10,7 @@ import logging
 import os
 import socket
 import ssl
-from typing import Any, Awaitable, Callable, Dict, List, Optional, Sequence, Set
+from typing import Any, Awaitable, Callable, Dict, List, Optional, Sequence, Set, cast
 
 from . import sasl
 from .errors import AmqpError
@@ -41,7 +41,7 @@ class Crowded(ConnectionError):
 def log(error: Exception) -> None:
     """What is told where nobody else is: a peer's fault as a line of level INFO, a fault of this side with its
     traceback."""
-    if isinstance(error, (AmqpError, ConnectionError, TimeoutError, Malformed, Refusal)):
+    if isinstance(error, (AmqpError, ConnectionError, TimeoutError, ssl.SSLError, Malformed, Refusal)):
         _LOG.info("a connection ended: %r", error)
     else:
         _LOG.error("a connection ended", exc_info=error)
@@ -234,7 +234,6 @@ async def serve(
         try:
             connection = await _made(peer, open, tls, serves=begin or Begin(), limits=of, **how)
         except BaseException as error:
-            peer.close()
             if isinstance(error, Exception):
                 told(error)
             return
@@ -247,13 +246,26 @@ async def _made(peer: socket.socket, open: Callable[[], Open], tls: Optional[ssl
     """A connection over a socket, which is closed where none can be made."""
     loop, reader = asyncio.get_running_loop(), asyncio.StreamReader()
     protocol = asyncio.StreamReaderProtocol(reader)
-    joins = loop.connect_accepted_socket(lambda: protocol, peer, ssl=tls)
-    limit = (how.get("waits") or Waits()).login
-    transport, _ = await (joins if tls is None else within(limit, joins, "no handshake of TLS"))
+    transport = await _joined(peer, protocol, tls, (how.get("waits") or Waits()).login)
     try:
         return Served(reader, asyncio.StreamWriter(transport, protocol, reader, loop), open(), **how)
     except BaseException:
         transport.abort()
+        raise
+
+
+async def _joined(
+    peer: socket.socket, protocol: asyncio.StreamReaderProtocol, tls: Optional[ssl.SSLContext], limit: float
+) -> asyncio.Transport:
+    """The transport of a socket, which is closed where there is none within the limit."""
+    loop = asyncio.get_running_loop()
+    joins = asyncio.ensure_future(loop.connect_accepted_socket(lambda: protocol, peer, ssl=tls))
+    try:
+        return cast(asyncio.Transport, (await within(limit, joins, "no handshake of TLS"))[0])
+    except BaseException:
+        # not before asyncio has let go of it: the number of its file may be another client's at once
+        joins.cancel()
+        joins.add_done_callback(lambda _: loop.call_soon(peer.close))
         raise
 
 

@@ -5,7 +5,8 @@ from __future__ import annotations
 from typing import Any, Dict, List, Mapping, NamedTuple, Optional, Sequence
 from urllib.parse import unquote, urlsplit
 
-from .values import Array, Described, Map, Symbol, Uint, Ulong
+from .performatives import symbols
+from .values import Described, Map, Symbol, Uint, Ulong
 
 _PORTS = {"amqp": 5672, "amqps": 5671}
 
@@ -32,8 +33,8 @@ class Address(NamedTuple):
         return cls(parts.scheme == "amqps", parts.hostname, parts.port or _PORTS[parts.scheme], user, password, path)
 
 
-def _symbols(given: Optional[Sequence[str]]) -> Optional[Array]:
-    return None if given is None else Array([Symbol(it) for it in given])
+def _optional(given: Optional[Sequence[str]]) -> Any:
+    return None if given is None else symbols(given)
 
 
 def _by_symbols(given: Optional[Mapping[Any, Any]]) -> Optional[Map]:
@@ -80,7 +81,7 @@ def source_of(
         said = {}
         for name, it in filters.items():
             said[Symbol(name)] = it if isinstance(it, Described) else Described(Symbol(name), it)
-    fields += [None if mode is None else Symbol(mode), said, None, _symbols(outcomes), _symbols(capabilities)]
+    fields += [None if mode is None else Symbol(mode), said, None, _optional(outcomes), _optional(capabilities)]
     return _described(0x28, fields)
 
 
@@ -97,4 +98,4 @@ def target_of(
     """A target (section 3.5.4), as `source_of` says it. Without an address it is the peer's node for messages that say
     in `to` where they go."""
     fields = _terminus(address, dynamic, durable, expiry, timeout, properties)
-    return _described(0x29, [*fields, _symbols(capabilities)])
+    return _described(0x29, [*fields, _optional(capabilities)])

@@ -125,8 +125,18 @@ class Client:
         as `Waits.closing`."""
         if isinstance(self._over, AlreadyClosed):
             return
-        if error is None:
-            await asyncio.gather(*(link.close(waits=waits) for link in [*self.links]))
+        seconds = self._how.waits.answer if waits else self._how.waits.closing
+        try:
+            if error is None:
+                await asyncio.gather(*(link.close(waits=waits) for link in [*self.links]))
+        except BaseException:
+            # the connection ends all the same, and at once
+            seconds = 0
+            raise
+        finally:
+            await self._close(error, seconds)
+
+    async def _close(self, error: Optional[Error], seconds: float) -> None:
         self._over = self._over or AlreadyClosed("this side has closed the connection")
         if self._watcher is not None:
             self._watcher.cancel()
@@ -134,7 +144,7 @@ class Client:
         for link in [*self.links]:
             link.end(self._over)
         if self._line is not None:
-            await self._line.close(error, self._how.waits.answer if waits else self._how.waits.closing)
+            await self._line.close(error, seconds)
 
     async def __aenter__(self: _C) -> _C:
         return self if self._watcher is not None else await self.open()

@@ -36,7 +36,8 @@ _SENT = struct.Struct("=2I")
 _PARTS = struct.Struct("=4I2H20s2I")
 #: Why a Begin that answers none was refused
 WHY_BEGIN_WANTED = 33
-_PAYLOAD_TOO_LONG = 91
+#: Why a transfer is not sent that is longer than a frame of the peer's
+WHY_PAYLOAD_TOO_LONG = 91
 _NONE_HERE = ctypes.c_char()
 _HEADER = b"AMQP\0\1\0\0"
 
@@ -113,11 +114,15 @@ class Driver(Links):
         self._answer, self._heard = functions.amqp1_answer, functions.amqp1_heard
         self._records = ctypes.create_string_buffer(most * RECORD.size)
         self._most, self._took, self._went, self._ticked = most, lib.Took(), lib.Went(), lib.Ticked()
+        self._took_at = ctypes.byref(self._took)
         self._parts = ctypes.create_string_buffer(_PARTS.size)
         self._texts: Dict[int, Tuple[str, ...]] = {}
+        #: Whether memory was refused for some of what `to_send` was to give: it is to be called again
+        self.has_left = False
         if key is not None and len(key) != 16:
             raise ValueError("a key has 16 bytes")
-        self._make(functions.amqp1_new, open.encode(), os.urandom(16) if key is None else key, opening or Opening(), time, limit)
+        own_key = os.urandom(16) if key is None else key
+        self._make(functions.amqp1_new, open.encode(functions), own_key, opening or Opening(), time, limit)
         if opening is None:
             self._pass_headers()
 
@@ -177,8 +182,8 @@ class Driver(Links):
         memory was refused before the first one. Who calls no `tick` need tell no time."""
         took = self._took
         # what is held keeps a bytearray as long as it is
-        start, held = _place_of(data, at)
-        status = self._take(ctypes.byref(self._place), now, start, len(data) - at, self._records, self._most, ctypes.byref(took))
+        start, held = (data, data) if not at and isinstance(data, bytes) else _place_of(data, at)
+        status = self._take(self._here, now, start, len(data) - at, self._records, self._most, self._took_at)
         del held
         if status not in (lib.FULL, lib.BAD_SIZE, lib.AGAIN, lib.WAITS, lib.OVER) and not (status == lib.NO_MEMORY and took.taken):
             self._judge(status)
@@ -276,7 +281,7 @@ class Driver(Links):
         """A whole delivery is to be sent on a link, in as many transfers as the peer's limit asks for. What became of it, as of `link_send`: where its first
         transfer is refused nothing changed; where a later one is, the delivery is under way, and a transfer with `ABORTED` ends it."""
         told = self.link_send(delivery, given)
-        if told.refusal != _PAYLOAD_TOO_LONG:
+        if told.refusal != WHY_PAYLOAD_TOO_LONG:
             return told
         for part in self.cut(delivery):
             told = self.link_send(part, given)
@@ -290,12 +295,14 @@ class Driver(Links):
         self._ask(_DISPOSE, numbers(session) + bytes([role]) + numbers(first, last) + bytes([settled, outcome]))
 
     def to_send(self) -> bytes:
-        """All bytes that wait to be sent, with their sizes; they are taken. Where memory is refused for some of them, the others come with the next call."""
+        """All bytes that wait to be sent, with their sizes; they are taken. Where memory is refused for some of them,
+        `has_left` is set, and the others come with the next call."""
         parts = []
         while True:
             status, count = self._call(SEND, b"", 0)
             parts.append(ctypes.string_at(self._buffer, count))
-            if status != lib.NO_MEMORY:
+            self.has_left = status == lib.NO_MEMORY
+            if not self.has_left:
                 self._judge(status)
             if count < len(self._buffer):
                 return b"".join(parts)
@@ -307,7 +314,7 @@ class Driver(Links):
 
     def _refused_as(self, number: int) -> Refusal:
         """The refusal of a request, of which no peer is told. What no frame has room for is `TooLarge`."""
-        return Refusal("TooLarge" if number == _PAYLOAD_TOO_LONG else self._text_of(number)[0])
+        return Refusal("TooLarge" if number == WHY_PAYLOAD_TOO_LONG else self._text_of(number)[0])
 
 
 __all__ = [

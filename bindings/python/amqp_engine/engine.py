@@ -43,6 +43,8 @@ class Engine(Driver):
         self._told_unfit = 0
         #: The sessions that have links by `link_attach`
         self.linked: Set[int] = set()
+        #: The time in milliseconds, where `tick` is called
+        self.now: Callable[[], int] = lambda: 0
         #: The most bytes of a frame, with its size, that this side takes
         self.max_frame_size = 2**32 - 1 if open.max_frame_size is None else open.max_frame_size
         #: The last channel of the peer's on which this side takes frames
@@ -78,7 +80,7 @@ class Engine(Driver):
         while not self.is_broken:
             if len(self._came) - self._at < self._wanted:
                 return
-            taken = self.take(self._came, self._at)
+            taken = self.take(self._came, self._at, self.now())
             self._at, self._wanted, self.is_broken = self._at + taken.taken, taken.wanted, taken.is_bad
             # made before any is given: whoever takes one may have more bytes received
             self._told.extend(event for record in taken.records for event in events_of(record))

@@ -67,6 +67,35 @@ class Ticked(ctypes.Structure):
     _fields_ = [("next", ctypes.c_uint64), ("due", ctypes.c_uint32), ("reserved", ctypes.c_uint32)]
 
 
+class Sent(ctypes.Structure):
+    """What became of a transfer on a link."""
+
+    _fields_ = [
+        ("given", ctypes.c_uint64),
+        ("number", ctypes.c_uint32),
+        ("refusal", ctypes.c_uint32),
+        ("has_given", ctypes.c_uint32),
+        ("reserved", ctypes.c_uint32),
+    ]
+
+
+class GivenBack(ctypes.Structure):
+    """An unsettled delivery that is given back."""
+
+    _fields_ = [("given", ctypes.c_uint64), ("number", ctypes.c_uint32), ("link", ctypes.c_uint32)]
+
+
+class Text(ctypes.Structure):
+    """Bytes that are being written: where, how much room is there, how many there are, and whether one had no form."""
+
+    _fields_ = [
+        ("at", ctypes.c_void_p),
+        ("room", ctypes.c_size_t),
+        ("length", ctypes.c_size_t),
+        ("is_bad", ctypes.c_int),
+    ]
+
+
 _NUMBER, _GIVEN, _SIZE, _BYTES, _AT = ctypes.c_uint32, ctypes.c_uint64, ctypes.c_size_t, ctypes.c_char_p, ctypes.c_void_p
 #: What the functions of links take behind the place: `include/amqp1/links.h` has each
 _OF_LINKS: Dict[str, Tuple[Any, ...]] = {
@@ -87,11 +116,31 @@ _OF_LINKS: Dict[str, Tuple[Any, ...]] = {
     "forget": (_NUMBER,),
     "credit": (_NUMBER, _NUMBER, ctypes.POINTER(_NUMBER)),
 }
+#: What the writers take behind the text: `include/amqp1/write.h` has each
+_WRITERS: Dict[str, Tuple[Any, ...]] = {
+    "put": (_BYTES, _SIZE),
+    "put_null": (),
+    "put_boolean": (ctypes.c_int,),
+    "put_ubyte": (ctypes.c_uint,),
+    "put_ushort": (ctypes.c_uint16,),
+    "put_uint": (_NUMBER,),
+    "put_bytes": (ctypes.c_uint, _BYTES, _SIZE),
+    "put_outcome": (ctypes.c_int,),
+    "begin_list": (ctypes.c_uint, _NUMBER),
+    "end_list": (_SIZE,),
+}
 
 
-def _found(path: Optional[str]) -> ctypes.CDLL:
+# those that were loaded, by their names
+_LOADED: Dict[str, ctypes.CDLL] = {}
+
+
+def _named(path: Optional[str]) -> str:
     beside = Path(__file__).parent / _FILE
-    named = path or os.environ.get("AMQP_LIBRARY") or (str(beside) if beside.exists() else _FILE)
+    return path or os.environ.get("AMQP_LIBRARY") or (str(beside) if beside.exists() else _FILE)
+
+
+def _found(named: str) -> ctypes.CDLL:
     try:
         return ctypes.CDLL(named)
     except OSError as error:
@@ -100,7 +149,14 @@ def _found(path: Optional[str]) -> ctypes.CDLL:
 
 def load(path: Optional[str] = None) -> ctypes.CDLL:
     """The library: of this path; else of `AMQP_LIBRARY`; else in this package's folder; else where the system looks. Raises `OSError` where there is none."""
-    library = _found(path)
+    named = _named(path)
+    if named not in _LOADED:
+        _LOADED[named] = _declared(_found(named))
+    return _LOADED[named]
+
+
+def _declared(library: ctypes.CDLL) -> ctypes.CDLL:
+    """The library, with what its functions take and answer."""
     place, size, at = ctypes.POINTER(Place), ctypes.c_size_t, ctypes.c_void_p
     _declare(library.amqp1_new, library.amqp1_call, library.amqp1_free)
     library.amqp1_take.argtypes = [place, ctypes.c_uint64, at, size, at, size, ctypes.POINTER(Took)]
@@ -118,7 +174,16 @@ def load(path: Optional[str] = None) -> ctypes.CDLL:
     for name, types in _OF_LINKS.items():
         of = getattr(library, f"amqp1_link_{name}")
         of.argtypes, of.restype = [place, *types], ctypes.c_int32
+    _declare_writers(library)
     return library
+
+
+def _declare_writers(library: ctypes.CDLL) -> None:
+    text = ctypes.POINTER(Text)
+    for name, types in _WRITERS.items():
+        of = getattr(library, f"amqp1_{name}")
+        of.argtypes, of.restype = [text, *types], _SIZE if name == "begin_list" else None
+    library.amqp1_written.argtypes, library.amqp1_written.restype = [text, ctypes.POINTER(_SIZE)], ctypes.c_int32
 
 
 def _declare(new: Any, call: Any, free: Any) -> None:

@@ -8,7 +8,7 @@ from __future__ import annotations
 import asyncio
 import itertools
 import logging
-from typing import TYPE_CHECKING, Any, Dict, List, Optional, Set
+from typing import TYPE_CHECKING, Any, Callable, Dict, List, Optional, Set
 
 from . import opening as begins
 from . import records as said
@@ -31,6 +31,10 @@ if TYPE_CHECKING:
 _LOG = logging.getLogger("amqp_engine")
 #: The transfers that a session takes before it says that it takes more; credit bounds deliveries
 WINDOW = 2**31 - 1
+#: So many bytes may wait in the library, and for the loop to go on
+MUCH = 65536
+#: So many bytes has a frame of a transfer at least, beside its payload
+_LEAST = 8
 #: How many links a peer may ask for, each of which is refused
 _MOST_REFUSED = 100
 
@@ -60,7 +64,7 @@ class Line:
         self.driver, self.waits = driver, waits
         #: the stream that carries its bytes
         self.wire = Wire(driver, self._take, self._lost, waits, name)
-        self.wire.before, self.wire.resumed = self._settle_runs, self._go_all
+        self.wire.before, self.wire.collected, self.wire.resumed = self._settle_runs, self._collected, self._go_all
         #: done once both Opens have passed; and once the line is over, with why
         self.opened: "asyncio.Future[None]" = self._loop.create_future()
         self.ended: "asyncio.Future[BaseException]" = self._loop.create_future()
@@ -68,11 +72,16 @@ class Line:
         #: whether the peer counts wrong where a flow crosses what it sends
         self.counts_late = False
         self.sessions: Dict[int, Session] = {}
-        self._numbers, self._given = itertools.count(), itertools.count(1)
+        self._numbers = itertools.count()
+        #: gives a number for a delivery, by which the library gives it back
+        self.given: Callable[[], int] = itertools.count(1).__next__
         #: what was sent and is not settled, by the number that was given with it
         self.sent: Dict[int, "Sending"] = {}
         self._runs: Set[int] = set()
         self._is_closing, self._refused_links = False, 0
+        # the session whose transfers were asked for, and not collected yet; and how many bytes they have at least
+        self._sending: Optional[Session] = None
+        self._least = 0
         driver.open()
 
     # ---- sessions
@@ -120,6 +129,7 @@ class Line:
             self.remote_open = Open.decode(body)
             self.counts_late = _counts_late(self.remote_open)
             _done(self.opened)
+            self.wire.opened()
         elif kind == said.BEGUN:
             _done(self.sessions[record.session].mapped)
         elif kind == said.ENDED:
@@ -170,8 +180,9 @@ class Line:
         outcome: Optional[Outcome] = None
         if record.flags & said.OF_RECEIVER:
             outcome = outcome_of(record.outcome, data[record.at : record.at + record.size])
-        for it in self.driver.link_settled_of(event):
-            sending = None if event.flags & EVENT_RECEIVED else self.sent.pop(it.given, None)
+        is_received = event.flags & EVENT_RECEIVED != 0
+        for given in self.driver.link_given_back(event.session, is_received, event.first, event.last):
+            sending = None if is_received else self.sent.pop(given, None)
             if sending is not None:
                 sending.settle(outcome or SETTLED_OUTCOME)
         if not event.flags & EVENT_BY_PEER:
@@ -231,9 +242,27 @@ class Line:
 
     # ---- what goes
 
-    def given(self) -> int:
-        """A number for a delivery, by which the library gives it back."""
-        return next(self._given)
+    def sends(self, session: Session, size: int) -> None:
+        """A delivery of a payload of so many bytes was asked for. Those of one turn of the loop are collected
+        together."""
+        wire = self.wire
+        if self._sending is not session:
+            if self._sending is not None:
+                wire.collect()
+            self._sending = session
+        self._least += size + _LEAST
+        wire.backlog += size + _LEAST
+        if self._least > MUCH:
+            wire.collect()
+        if not wire.is_asked:
+            wire.ask()
+
+    def _collected(self, count: int) -> None:
+        """So many bytes were taken from the library. Where the transfers have more, the peer's window holds some of
+        them back."""
+        session, least, self._sending, self._least = self._sending, self._least, None, 0
+        if session is not None and count < least and not self.driver.has_left:
+            session.is_held = True
 
     def settle(self, session: Session, number: int, outcome: int) -> None:
         """A delivery that came is to be settled. Those of one run go out as one disposition."""
@@ -313,11 +342,14 @@ class Line:
         if self.ended.done():
             return
         self._is_closing = True
-        self._settle_runs()
-        self._ask(lambda: self.driver.close(error))
-        self.wire.ask()
-        await asyncio.wait({self.ended}, timeout=seconds)
-        self.wire.close()
+        try:
+            self._settle_runs()
+            self._ask(lambda: self.driver.close(error))
+            self.wire.ask()
+            await asyncio.wait({self.ended}, timeout=seconds)
+        finally:
+            # also where memory is refused, or this is cancelled
+            self.wire.close()
 
 
 def _done(future: "asyncio.Future[None]") -> None:

@@ -10,7 +10,7 @@ from __future__ import annotations
 
 import ctypes
 import struct
-from typing import Any, Iterator, NamedTuple, Optional
+from typing import Any, Iterator, List, NamedTuple, Optional, Tuple
 
 from . import library as lib
 from .performatives import Attach, Disposition, Error
@@ -20,7 +20,9 @@ from .requesting import BadArgument, Requests
 #: What an event is: `LinkEvent.kind`; the comments of `include/amqp1/links.h` have each. One that is not named here is of a later version: pass over it
 EVENT_NOTHING, EVENT_ATTACHED, EVENT_FLOW, EVENT_PART, EVENT_PASSED_OVER, EVENT_FAULT, EVENT_SETTLED, EVENT_ENDED, EVENT_DUE = range(9)
 #: What an event says besides: `LinkEvent.flags`
-EVENT_FIRST, EVENT_LAST, EVENT_ABORTED, EVENT_PRESETTLED, EVENT_GIVEN, EVENT_FOR_GOOD, EVENT_RECEIVED, EVENT_BY_PEER = (1 << at for at in range(8))
+(
+    EVENT_FIRST, EVENT_LAST, EVENT_ABORTED, EVENT_PRESETTLED, EVENT_GIVEN, EVENT_FOR_GOOD, EVENT_RECEIVED, EVENT_BY_PEER, EVENT_NUMBERED,
+) = (1 << at for at in range(9))  # fmt: skip
 #: Where a link stands: `detail` of `EVENT_ATTACHED`
 LIFE_ATTACHING, LIFE_REFUSED, LIFE_ATTACHED, LIFE_DETACHING, LIFE_DETACHED = range(5)
 #: What a Detach of the peer's was: `detail` of `EVENT_ENDED`
@@ -94,11 +96,10 @@ class Links(Requests):
 
     def __init__(self, functions: Any) -> None:
         """`functions` are those of the library."""
-        super().__init__(functions.amqp1_call, functions.amqp1_free)
-        self._functions, self._here = functions, ctypes.byref(self._place)
+        super().__init__(functions)
         self._event_room = ctypes.create_string_buffer(_EVENT.size)
-        self._told_room = ctypes.create_string_buffer(_TOLD.size)
-        self._unsettled_room = ctypes.create_string_buffer(_UNSETTLED.size)
+        self._told_room, self._unsettled_room = lib.Sent(), lib.GivenBack()
+        self._told_at, self._unsettled_at = ctypes.byref(self._told_room), ctypes.byref(self._unsettled_room)
         self._number_room = ctypes.c_uint32()
 
     def link_attach(self, session: int, attach: Attach, low: int = 0, high: int = 0, name: str = "") -> int:
@@ -107,7 +108,7 @@ class Links(Requests):
         fewer than `low` are left; with a `high` of 0 never by itself. Its `max_message_size` is held against what comes. Raises `Refusal` where no
         handle is allotted to the name (`NoLink`), the handle has an end, which `link_remove` takes away (`InUse`), or the Attach is refused (section
         2.6.3)."""
-        perf, under, renewal = attach.encode(), name.encode(), (_number(low), _number(high))
+        perf, under, renewal = attach.encode(self._functions), name.encode(), (_number(low), _number(high))
         given = (_number(session), perf, len(perf), under, len(under), *renewal)
         self._judge(self._functions.amqp1_link_attach(self._here, *given, ctypes.byref(self._number_room)))
         return self._number_room.value
@@ -167,8 +168,8 @@ class Links(Requests):
     def link_detach(self, session: int, link: int, closed: bool = False, error: Optional[Error] = None) -> bool:
         """Sends a Detach of a link (section 2.6.5), which ends it for good where it is `closed` (section 2.6.6). False where no end has the handle, or
         this side's was sent before. Raises `Refusal` (`HeldBack`) where transfers of the link wait for the peer's window: `link_due` tells when it may be
-        asked for again."""
-        perf = b"" if error is None else error.encode()
+        asked for again; and where the peer's Attach is still to come: `EVENT_ATTACHED` does."""
+        perf = b"" if error is None else error.encode(self._functions)
         return self._is_done(self._functions.amqp1_link_detach(self._here, _number(session), _number(link), closed, perf, len(perf)))
 
     def link_send(self, delivery: Delivery, given: int = 0) -> Told:
@@ -177,11 +178,18 @@ class Links(Requests):
         delivery from its first transfer on, and given back with it. Where it is refused nothing changed. Raises `Refusal` (`Over`) where the
         connection is over."""
         data = delivery.payload if delivery.tag is None else delivery.tag + delivery.payload
-        status = self._functions.amqp1_link_send(self._here, head_of(delivery), data, len(data), _number(given, 64), self._told_room)
-        if status not in (lib.DONE, lib.REFUSED):
-            self._judge(status)
+        self.link_send_head(head_of(delivery), data, _number(given, 64))
         came, number, refusal, has_given, _ = _TOLD.unpack(self._told_room)
         return Told(number, refusal, came if has_given else None)
+
+    def link_send_head(self, head: bytes, data: bytes, given: int) -> Tuple[int, int]:
+        """As `link_send`, of a head that `records.HEAD` has packed and of the tag with the payload, where many are sent:
+        the number of the delivery and 0; or 0, and the number of the refusal."""
+        status = self._functions.amqp1_link_send(self._here, head, data, len(data), given, self._told_at)
+        if status > lib.REFUSED:
+            self._judge(status)
+        told = self._told_room
+        return told.number, told.refusal
 
     def link_settle(self, session: int, role: bool, first: int, last: int, settled: bool, outcome: int = 0) -> bool:
         """Sends a disposition of a session's deliveries from the first number to the last (sections 2.6.12 and 2.7.6). `role` is this side's; the
@@ -192,14 +200,14 @@ class Links(Requests):
 
     def link_dispose(self, session: int, disposition: Disposition) -> bool:
         """The same by a Disposition of any state, as rejected with an error, or modified with its fields (part 3, sections 3.4.2 and 3.4.5)."""
-        perf = disposition.encode()
+        perf = disposition.encode(self._functions)
         return self._is_done(self._functions.amqp1_link_dispose(self._here, _number(session), perf, len(perf)))
 
     def link_accept(self, event: LinkEvent) -> None:
         """The delivery of a part that has come is settled, as accepted, and let go."""
         self.link_settle(event.session, True, event.first, event.first, True, _ACCEPTED)
         number = (event.session, True, event.first, event.first)
-        self._is_done(self._functions.amqp1_link_settled(self._here, *number, self._unsettled_room))
+        self._is_done(self._functions.amqp1_link_settled(self._here, *number, self._unsettled_at))
 
     def link_settled(self, session: int, role: bool, first: int, last: int) -> Iterator[Unsettled]:
         """Takes out the unsettled deliveries of a range, which is settled: each is given back once, in the order of their numbers. `role` is this
@@ -209,6 +217,15 @@ class Links(Requests):
     def link_settled_of(self, event: LinkEvent) -> Iterator[Unsettled]:
         """The same of an event of `EVENT_SETTLED`."""
         return self.link_settled(event.session, event.flags & EVENT_RECEIVED != 0, event.first, event.last)
+
+    def link_given_back(self, session: int, role: bool, first: int, last: int) -> List[int]:
+        """The same of a range, as a list of what was given with each."""
+        call, here, room, at = self._functions.amqp1_link_settled, self._here, self._unsettled_room, self._unsettled_at
+        found = []
+        while not (status := call(here, session, role, first, last, at)):
+            found.append(room.given)
+        self._is_done(status)
+        return found
 
     def link_left(self, session: int, link: int) -> Iterator[Unsettled]:
         """Takes out the deliveries that are left unsettled on a link, once the peer has detached it: each is told once, so that a program can send it
@@ -236,7 +253,7 @@ class Links(Requests):
 
     def _each(self, call: Any, *given: int) -> Iterator[Unsettled]:
         """Deliveries, one after the other, each taken out as the iterator comes to it."""
-        while self._is_done(call(self._here, *given, self._unsettled_room)):
+        while self._is_done(call(self._here, *given, self._unsettled_at)):
             yield Unsettled._make(_UNSETTLED.unpack(self._unsettled_room))
 
     def _is_done(self, status: int) -> bool:

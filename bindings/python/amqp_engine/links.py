@@ -11,7 +11,7 @@ from typing import TYPE_CHECKING, Any, Callable, Dict, Generator, Optional, Set,
 from .errors import AlreadyClosed, AmqpError, LinkClosed, TimedOut
 from .events import Refusal
 from .line import Line, Session
-from .linking import EVENT_ATTACHED, EVENT_ENDED, EVENT_FAULT, LIFE_ATTACHED, LinkEvent
+from .linking import EVENT_ATTACHED, EVENT_ENDED, EVENT_FAULT, EVENT_PASSED_OVER, LIFE_ATTACHED, LinkEvent
 from .performatives import Attach, Detach, Error, address_of
 from .records import Record
 
@@ -159,21 +159,27 @@ class Link:
 
     def take(self, line: Line, session: Session, record: Record, event: LinkEvent, data: bytes) -> None:
         """What came for the link."""
-        body = data[record.at : record.at + record.size]
         if event.kind == EVENT_ATTACHED:
-            if event.detail == LIFE_ATTACHED and self._line is line:
-                self.remote = Attach.decode(body)
-                self._is_attached(line)
-            return
+            return self._take_attach(line, record, event, data)
         if event.kind == EVENT_ENDED:
             line.driver.link_respond(event)
-            self._has_ended(line, session, Detach.decode(body).error)
+            self._has_ended(line, session, Detach.decode(data[record.at : record.at + record.size]).error)
         elif event.kind == EVENT_FAULT:
             line.driver.link_respond(event)
             _LOG.info("the peer broke the rules of the link %s (%d)", self.name, event.detail)
             self.lost(LinkClosed("the peer broke the rules of the link"))
+        elif event.kind == EVENT_PASSED_OVER:
+            line.driver.link_respond(event)
         elif self._line is line:
             self._take(line, record, event, data)
+
+    def _take_attach(self, line: Line, record: Record, event: LinkEvent, data: bytes) -> None:
+        """The peer's Attach: a Detach that was asked for before it goes out behind it."""
+        if event.detail == LIFE_ATTACHED and self._line is line:
+            self.remote = Attach.decode(data[record.at : record.at + record.size])
+            self._is_attached(line)
+        if self._owed is not None:
+            self._owed()
 
     def _is_attached(self, line: Line) -> None:
         assert self._attached is not None

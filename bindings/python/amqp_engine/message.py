@@ -11,13 +11,13 @@
 
 from __future__ import annotations
 
-from typing import Any, Dict, Iterable, List, Mapping, Optional, Set, Type, TypeVar
+from typing import Any, Dict, Iterable, List, Mapping, Optional, Tuple, Type, TypeVar
 
 from .sections import (
     APPLICATION_PROPERTIES, BODY, DATA, DELIVERY_ANNOTATIONS, FOOTER, HEADER, MESSAGE_ANNOTATIONS, PROPERTIES, SEQUENCE,
     VALUE, Header, Properties, Section, section, sections_of,
 )  # fmt: skip
-from .values import Malformed, Map, Symbol, read
+from .values import Malformed, Map, Symbol, read, write
 
 #: What a body is: `Message.kind`
 KIND_DATA, KIND_VALUE, KIND_SEQUENCE = "data", "value", "sequence"
@@ -25,6 +25,7 @@ _KINDS = {KIND_DATA: DATA, KIND_SEQUENCE: SEQUENCE, KIND_VALUE: VALUE}
 _CODES = {code: kind for kind, code in _KINDS.items()}
 _FIELDS: Dict[int, Any] = {HEADER: Header, PROPERTIES: Properties}
 _BEFORE = (HEADER, DELIVERY_ANNOTATIONS, MESSAGE_ANNOTATIONS, PROPERTIES, APPLICATION_PROPERTIES)
+_NO_PLACES: List[Section] = []
 _M = TypeVar("_M", bound="Message")
 
 
@@ -83,8 +84,12 @@ class Message:
     ) -> None:
         """A message of this body. `properties` are application properties; `fields` are attributes by their names:
         `subject=..`, `durable=..`, `annotations=..`. Raises `TypeError` for a name that no message has."""
-        self._clear(b"", [])
-        self._put_body(body, kind)
+        code, parts = (DATA, [body]) if kind is None and type(body) is bytes else _body_of(body, kind)
+        # the bytes that came, and the places of their sections
+        self._came, self._places = b"", _NO_PLACES
+        # the values of sections that were given, or read; and which of them are to be written anew
+        self._values: Dict[int, Any] = {code: parts}
+        self._changed = {code}
         if properties is not None:
             self._put(APPLICATION_PROPERTIES, properties)
         for name, value in fields.items():
@@ -92,17 +97,12 @@ class Message:
                 raise TypeError(f"a message has no {name}")
             setattr(self, name, value)
 
-    def _clear(self, came: bytes, places: List[Section]) -> None:
-        self._came, self._places = came, places
-        # the values of sections that were given, or read; and which of them are to be written anew
-        self._values: Dict[int, Any] = {}
-        self._changed: Set[int] = set()
-
     @classmethod
     def decode(cls: Type[_M], payload: bytes) -> _M:
         """The message whose bytes these are. Raises `Malformed` where they are no sections."""
         message = cls.__new__(cls)
-        message._clear(bytes(payload), sections_of(payload))
+        message._came, message._places = bytes(payload), sections_of(payload)
+        message._values, message._changed = {}, set()
         return message
 
     def encode(self) -> bytes:
@@ -125,12 +125,12 @@ class Message:
         if value is None:
             return b""
         if code in _FIELDS:
-            return bytes(value.encode()) if value != _FIELDS[code]() else b""
+            return write(value.described()) if value != _FIELDS[code]() else b""
         return section(code, value if code == APPLICATION_PROPERTIES else _by_symbols(value)) if len(value) else b""
 
     def _body_bytes(self, code: int) -> bytes:
-        value = self._values[code]
-        return b"".join(section(code, it) for it in value)
+        parts = self._values[code]
+        return section(code, parts[0]) if len(parts) == 1 else b"".join([section(code, it) for it in parts])
 
     # ---- the sections
 
@@ -177,7 +177,7 @@ class Message:
 
     @body.setter
     def body(self, body: Any) -> None:
-        self._put_body(body, None)
+        self._put_body(body)
 
     def _parts(self, code: int) -> List[Any]:
         """The values of the body's sections."""
@@ -185,19 +185,12 @@ class Message:
             self._values[code] = [read(self._came, it.value_at)[0] for it in self._places if it.code == code]
         return list(self._values[code])
 
-    def _put_body(self, body: Any, kind: Optional[str]) -> None:
-        if kind is None:
-            kind = KIND_DATA if isinstance(body, (bytes, bytearray)) else KIND_VALUE
-        if kind not in _KINDS:
-            raise ValueError(f"no kind of a body: {kind!r}")
+    def _put_body(self, body: Any) -> None:
+        new, parts = _body_of(body, None)
         for code in BODY:
             self._values.pop(code, None)
             self._changed.discard(code)
-        is_many = kind == KIND_DATA and isinstance(body, (list, tuple))
-        parts = list(body) if is_many else [list(body) if kind == KIND_SEQUENCE else body]
-        if kind == KIND_DATA and not all(isinstance(it, (bytes, bytearray)) for it in parts):
-            raise TypeError("a data section that is no bytes")
-        self._put(_KINDS[kind], parts)
+        self._put(new, parts)
 
     # ---- the header (section 3.2.1)
 
@@ -264,6 +257,19 @@ class Message:
 
     def __repr__(self) -> str:
         return f"Message({self.body!r:.60}, properties={self.properties!r:.60})"
+
+
+def _body_of(body: Any, kind: Optional[str]) -> Tuple[int, List[Any]]:
+    """The code of a body's sections, and their values."""
+    if kind is None:
+        return (DATA if isinstance(body, (bytes, bytearray)) else VALUE), [body]
+    if kind not in _KINDS:
+        raise ValueError(f"no kind of a body: {kind!r}")
+    is_many = kind == KIND_DATA and isinstance(body, (list, tuple))
+    parts = list(body) if is_many else [list(body) if kind == KIND_SEQUENCE else body]
+    if kind == KIND_DATA and not all(isinstance(it, (bytes, bytearray)) for it in parts):
+        raise TypeError("a data section that is no bytes")
+    return _KINDS[kind], parts
 
 
 def _by_symbols(value: Mapping[Any, Any]) -> Map:

@@ -12,7 +12,9 @@ from datetime import datetime
 from typing import Any, Callable, ClassVar, Dict, List, Mapping, Optional, Tuple, Type, TypeVar
 from uuid import UUID
 
+from .library import load
 from .values import Array, Described, Malformed, Map, Symbol, Timestamp, Ubyte, Uint, Ulong, Ushort, read, write
+from .writers import written
 
 #: The end of a link on which a side stands (section 2.8.1)
 SENDER, RECEIVER = False, True
@@ -33,9 +35,12 @@ def names_of(cls: Any) -> Tuple[str, ...]:
     return _NAMES[cls]
 
 
-def _symbols(value: Any) -> Any:
-    """Several symbols are an array; one may stand alone."""
-    return Array([Symbol(it) for it in value]) if isinstance(value, (list, tuple)) else Symbol(value)
+def symbols(value: Any) -> Any:
+    """Several symbols are an array, of symbols also where there are none; one may stand alone."""
+    if isinstance(value, str):
+        return Symbol(value)
+    items = [Symbol(it) for it in value]
+    return Array(items, None if items else b"\xa3")
 
 
 def _moment(value: Any) -> Any:
@@ -49,7 +54,7 @@ def _identity(value: Any) -> Any:
 
 
 _WRITTEN: Dict[str, Callable[[Any], Any]] = {
-    "string": str, "symbol": Symbol, "symbols": _symbols, "ulong": Ulong, "uint": Uint, "ushort": Ushort, "ubyte": Ubyte, "boolean": bool,
+    "string": str, "symbol": Symbol, "symbols": symbols, "ulong": Ulong, "uint": Uint, "ushort": Ushort, "ubyte": Ubyte, "boolean": bool,
     "binary": bytes, "fields": lambda it: it, "value": lambda it: it, "error": lambda it: it.described(),
     "timestamp": _moment, "identity": _identity,
 }  # fmt: skip
@@ -81,9 +86,9 @@ class Performative:
             items.pop()
         return Described(Ulong(self.CODE), items)
 
-    def encode(self) -> bytes:
-        """Its bytes."""
-        return write(self.described())
+    def encode(self, library: Any = None) -> bytes:
+        """Its bytes, by the writers of a library: by default of the one that `library.load` finds."""
+        return written(self.described(), load() if library is None else library)
 
     @classmethod
     def of(cls: Type[_P], value: Any) -> _P:

@@ -22,7 +22,8 @@ NONE = 0xFFFFFFFF
 
 #: How a record lies in memory
 RECORD = struct.Struct("=BBH14I2H32s")
-_HEAD = struct.Struct("=4I2H")
+#: How the head of a transfer does: session, link, format, length of the payload, flags, length of the tag
+HEAD = struct.Struct("=4I2H")
 
 
 class Record(NamedTuple):
@@ -70,6 +71,6 @@ def head_of(it: Delivery) -> bytes:
     """The head of a transfer, as the library lays it out."""
     flags = it.flags | (TAGGED if it.tag is not None else 0)
     try:
-        return _HEAD.pack(it.session, it.link, it.format, len(it.payload), flags, len(it.tag or b""))
+        return HEAD.pack(it.session, it.link, it.format, len(it.payload), flags, len(it.tag or b""))
     except struct.error as error:
         raise BadArgument(f"a head does not say this: {error}") from None

@@ -62,10 +62,11 @@ class Requests:
     A request that is refused raises `Refusal`; nothing that came before it is lost. What is to be sent is taken by `to_send`.
     """
 
-    def __init__(self, call: Any, free: Any) -> None:
-        """`call` and `free` are those functions of the library."""
-        self._call_by, self._free_by = call, free
+    def __init__(self, functions: Any) -> None:
+        """`functions` are those of the library."""
+        self._functions, self._call_by, self._free_by = functions, functions.amqp1_call, functions.amqp1_free
         self._place, self._written = lib.Place(), ctypes.c_size_t(0)
+        self._here, self._written_at = ctypes.byref(self._place), ctypes.byref(self._written)
         self._buffer = ctypes.create_string_buffer(65536)
         # of each session the number of the next delivery
         self._numbers: Dict[int, int] = {}
@@ -92,7 +93,7 @@ class Requests:
 
     def close(self, error: Optional[Error] = None) -> None:
         """A Close is to be sent, with an error or without."""
-        self._ask(_CLOSE, b"\0" if error is None else b"\1" + error.encode())
+        self._ask(_CLOSE, b"\0" if error is None else b"\1" + error.encode(self._functions))
 
     @property
     def state(self) -> str:
@@ -108,12 +109,12 @@ class Requests:
 
     def begin(self, session: int, begin: Optional[Begin] = None) -> None:
         """A session is begun, under a number that none had."""
-        self._ask(_BEGIN, numbers(session) + (begin or Begin()).encode())
+        self._ask(_BEGIN, numbers(session) + (begin or Begin()).encode(self._functions))
         self._numbers[session] = 0
 
     def end(self, session: int, error: Optional[Error] = None) -> None:
         """The session's End is to be sent, or the peer's is answered."""
-        self._ask(_END, numbers(session) + (b"\0" if error is None else b"\1" + error.encode()))
+        self._ask(_END, numbers(session) + (b"\0" if error is None else b"\1" + error.encode(self._functions)))
 
     def release(self, session: int) -> None:
         """The session's channel is given back."""
@@ -127,14 +128,14 @@ class Requests:
     def answer_begin(self, session: int, frame: bytes, begin: Optional[Begin] = None) -> None:
         """The Begin by which the peer begins a session, a frame behind its size, is answered by a session under a number that none had. Raises `Refusal`
         where it is not: `NotOpened`, `ChannelInUse`, `TooLarge`, or by the engine's name; and `AnswerLost` where memory was refused on the way."""
-        perf = (begin or Begin()).encode()
+        perf = (begin or Begin()).encode(self._functions)
         self._ask(_BEGIN_ANSWER, numbers(session, len(perf)) + perf + frame)
         self._numbers[session] = 0
 
     def answer_end(self, session: int, error: Optional[Error] = None) -> None:
         """The End by which the peer ends a session is answered, and the session is let go. Raises `Refusal` where the peer has not ended it, or this side
         has too (`NotEnded`), and as `let_go` does."""
-        self._ask(_END_ANSWER, numbers(session) + (b"\0" if error is None else b"\1" + error.encode()))
+        self._ask(_END_ANSWER, numbers(session) + (b"\0" if error is None else b"\1" + error.encode(self._functions)))
         self._numbers.pop(session, None)
 
     def let_go(self, session: int) -> None:
@@ -166,21 +167,21 @@ class Requests:
 
     def attach(self, session: int, attach: Attach) -> None:
         """An Attach is to be sent; its handle is the output handle of the link."""
-        self._ask(_ATTACH, numbers(session) + attach.encode())
+        self._ask(_ATTACH, numbers(session) + attach.encode(self._functions))
 
     def detach(self, session: int, detach: Detach, expects_answer: bool = True) -> None:
         """A Detach is to be sent; `expects_answer` is false where it answers the peer's."""
-        self._ask(_DETACH, numbers(session) + bytes([expects_answer]) + detach.encode())
+        self._ask(_DETACH, numbers(session) + bytes([expects_answer]) + detach.encode(self._functions))
 
     def flow(self, session: int, flow: Flow) -> None:
         """A flow of a link is to be sent."""
-        self._ask(_FLOW, numbers(session) + flow.encode())
+        self._ask(_FLOW, numbers(session) + flow.encode(self._functions))
 
     def transfer(self, session: int, transfer: Transfer, payload: bytes = b"", first: bool = True) -> Optional[int]:
         """A transfer is to be sent: the first of its delivery, or a later one. `transfer.handle` is the output handle of its link, which the peer has
         attached and neither side has detached: else it is refused (`UnattachedHandle`). Answers the number of the delivery, of a first one: deliveries
         are numbered in the order in which they are accepted, from 0 on, also while the session holds them back (AMQP 1.0 part 2, section 2.6.12)."""
-        perf = transfer.encode()
+        perf = transfer.encode(self._functions)
         self._ask(_TRANSFER, numbers(session) + bytes([first]) + numbers(len(perf)) + perf + payload)
         return self._numbered(session) if first else None
 
@@ -191,11 +192,11 @@ class Requests:
 
     def payload_room(self, transfer: Transfer) -> int:
         """How many bytes of payload go out in one frame beside this transfer, whatever number its delivery gets; 0 where there is none."""
-        return int.from_bytes(self._get(_PAYLOAD_ROOM, transfer.encode()), "big")
+        return int.from_bytes(self._get(_PAYLOAD_ROOM, transfer.encode(self._functions)), "big")
 
     def disposition(self, session: int, disposition: Disposition) -> None:
         """A disposition is to be sent."""
-        self._ask(_DISPOSITION, numbers(session) + disposition.encode())
+        self._ask(_DISPOSITION, numbers(session) + disposition.encode(self._functions))
 
     def settle(self, session: int, role: bool, first: int, last: Optional[int] = None) -> None:
         """Open deliveries from `first` to `last` that this side settles by itself are let go. `role` is this side's."""
@@ -205,8 +206,7 @@ class Requests:
 
     def _call(self, operation: int, given: Union[bytes, int], length: int) -> Tuple[int, int]:
         """`given` is bytes, or where so many lie."""
-        place, written = ctypes.byref(self._place), ctypes.byref(self._written)
-        status = self._call_by(place, operation, given, length, self._buffer, len(self._buffer), written)
+        status = self._call_by(self._here, operation, given, length, self._buffer, len(self._buffer), self._written_at)
         return status, self._written.value
 
     def _ask(self, operation: int, given: bytes = b"") -> None:

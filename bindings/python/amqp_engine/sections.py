@@ -23,6 +23,9 @@ _NAMED: Dict[str, int] = {
 }  # fmt: skip
 
 
+_HEADS = {code: bytes([0x00, 0x53, code]) for code in range(HEADER, FOOTER + 1)}
+
+
 class Section(NamedTuple):
     """A section of a message: its code; where it begins, where its value begins, and where both end."""
 
@@ -59,7 +62,7 @@ def _descriptor(of: bytes, at: int) -> Tuple[int, int]:
 
 def section(code: int, value: Any) -> bytes:
     """A section as bytes."""
-    return b"\x00\x53" + bytes([code]) + write(value)
+    return _HEADS[code] + write(value)
 
 
 @dataclass

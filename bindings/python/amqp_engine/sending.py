@@ -9,33 +9,31 @@ from collections import deque
 from typing import TYPE_CHECKING, Any, Deque, Dict, List, Optional
 
 from . import records as said
-from .driver import Delivery
+from .driver import WHY_PAYLOAD_TOO_LONG, Delivery
 from .errors import AmqpError, NotAccepted, TimedOut
-from .line import Line
+from .line import MUCH, Line
 from .linking import EVENT_FLOW, WHY_LINK_NO_CREDIT, WHY_LINK_NOT_ATTACHED, WHY_LINK_TOO_LARGE, LinkEvent
 from .links import Link
 from .message import Message
 from .outcomes import SETTLED_OUTCOME, Outcome
 from .performatives import SENDER, SETTLED, Error
-from .records import Record
+from .records import HEAD, Record
 
 if TYPE_CHECKING:
     from .client import Client
-
-#: So many bytes may wait for the loop to go on
-_MUCH = 65536
-
 
 class Sending:
     """One message on its way, and who waits for what becomes of it."""
 
     __slots__ = ("sender", "payload", "tag", "is_settled", "future", "number")
 
-    def __init__(self, sender: "Sender", payload: bytes, tag: bytes, is_settled: bool) -> None:
+    def __init__(
+        self, sender: "Sender", payload: bytes, tag: bytes, is_settled: bool, future: "asyncio.Future[Outcome]"
+    ) -> None:
         #: by whom it is sent, its bytes, the tag of its delivery, and whether it is sent settled
         self.sender, self.payload, self.tag, self.is_settled = sender, payload, tag, is_settled
         #: what becomes of it
-        self.future: "asyncio.Future[Outcome]" = asyncio.get_running_loop().create_future()
+        self.future = future
         #: that of its delivery, once it went out
         self.number: Optional[int] = None
 
@@ -65,7 +63,7 @@ class Sender(Link):
         super().__init__(client, SENDER, name, attach, own_session)
         self._waiting: Deque[Sending] = deque()
         self._tags = itertools.count()
-        self._resend = resend
+        self._resend, self._is_settled = resend, attach["snd_settle_mode"] == SETTLED
         # whether the credit is used up, until a flow comes
         self._is_spent = False
 
@@ -78,31 +76,30 @@ class Sender(Link):
         Raises `NotAccepted` where the message was rejected, released or modified; with `raises=False` it answers that.
         Raises `TimedOut`, and the error by which the link ends: `is_unsettled` says whether the message went out, and
         may have been taken. A call that is cancelled before its message went out sends nothing."""
-        self.check()
-        if self._attached is None:
+        if self._over is not None or self._attached is None:
+            self.check()
             raise RuntimeError("the sender is not open")
         payload = (message if isinstance(message, Message) else Message(message)).encode()
         tag = (next(self._tags) % 2**32).to_bytes(4, "big")
-        sending = Sending(self, payload, tag, settled or self._fields["snd_settle_mode"] == SETTLED)
-        self._waiting.append(sending)
-        try:
-            self.go()
-        except BaseException:
-            # it does not go out later
-            if sending in self._waiting:
-                self._waiting.remove(sending)
-            raise
-        outcome = await self._outcome(sending, timeout)
+        future: "asyncio.Future[Outcome]" = asyncio.get_running_loop().create_future()
+        sending = Sending(self, payload, tag, settled or self._is_settled, future)
+        # behind those that wait, for credit or for another reason that `go` is called after
+        if self._waiting or self._is_spent or not self._may_send() or not self._sends(sending):
+            self._waiting.append(sending)
+        if future.done():
+            if self._line is not None and self._line.wire.backlog > MUCH:
+                # what was sent settled goes out before more is
+                await asyncio.sleep(0)
+            outcome = future.result()
+        else:
+            is_plain = timeout is None and sending.number is not None
+            outcome = await (future if is_plain else self._outcome(sending, timeout))
         if raises and not outcome.is_taken:
             raise NotAccepted(outcome)
         return outcome
 
     async def _outcome(self, sending: Sending, timeout: Optional[float]) -> Outcome:
-        if sending.future.done():
-            if self._line is not None and self._line.wire.backlog > _MUCH:
-                # what was sent settled goes out before more is
-                await asyncio.sleep(0)
-            return sending.future.result()
+        """What becomes of a message for which somebody waits so long, and which does not go out once nobody does."""
         timer = None
         if timeout is not None:
             timer = asyncio.get_running_loop().call_later(timeout, sending.time_out, timeout)
@@ -148,18 +145,17 @@ class Sender(Link):
         """Whether a message went out, or will never."""
         line, session = self._line, self._session
         assert line is not None and session is not None
-        flags = said.FORMATTED | (said.SETTLED if sending.is_settled else 0)
-        delivery, given = Delivery(session.number, self._handle, sending.tag, sending.payload, flags), line.given()
-        told = line.driver.link_deliver(delivery, given)
-        if told.refusal:
-            return self._not_sent(line, sending, told.refusal)
-        data = line.driver.to_send()
-        if data:
-            line.wire.write(data)
-        else:
-            # the peer's session window is used up: what was asked waits in the library
-            session.is_held = True
-        sending.number = told.number
+        payload, tag, given = sending.payload, sending.tag, line.given()
+        flags = said.TAGGED | said.FORMATTED | (said.SETTLED if sending.is_settled else 0)
+        head = HEAD.pack(session.number, self._handle, 0, len(payload), flags, len(tag))
+        number, refusal = line.driver.link_send_head(head, tag + payload, given)
+        if refusal == WHY_PAYLOAD_TOO_LONG:
+            delivery = Delivery(session.number, self._handle, tag, payload, flags & ~said.TAGGED)
+            number, refusal, _ = line.driver.link_deliver(delivery, given)
+        if refusal:
+            return self._not_sent(line, sending, refusal)
+        line.sends(session, len(payload))
+        sending.number = number
         if sending.is_settled:
             sending.settle(SETTLED_OUTCOME)
         else:

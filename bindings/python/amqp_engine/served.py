@@ -21,7 +21,7 @@ import contextlib
 import inspect
 import time
 from collections import deque
-from typing import Any, AsyncIterator, Awaitable, Callable, Coroutine, Deque, Dict, Optional, Set, Union
+from typing import Any, AsyncIterator, Awaitable, Callable, Coroutine, Deque, Dict, List, Optional, Set, Union
 
 from .ends import Link
 from .errors import LinkClosed
@@ -278,7 +278,11 @@ class Served(Connection):
     async def _drop_all(self) -> None:
         """All links are over; others have their turn meanwhile."""
         until = time.monotonic() + self.limits.turn
-        links = [it for session in self.sessions.values() for it in session.links.values()]
+        links: List[Link] = []
+        for session in self.sessions.values():
+            links += session.links.values()
+            # a session and its links refer to each other
+            session.links.clear()
         self.sessions.clear()
         try:
             while links:

@@ -6,7 +6,7 @@ import asyncio
 import contextlib
 import time
 from dataclasses import dataclass
-from typing import Any, Awaitable, Optional
+from typing import Any, Awaitable, Dict, Optional
 
 #: As many bytes may wait before a call waits for the peer to read them, and so many it has to read within `Waits.reading`
 _FEW = 65536
@@ -59,8 +59,6 @@ class Stream:
         # before Python 3.10 two tasks may not drain one writer
         self._drains = asyncio.Lock()
         self._failed: Optional[PeerSilent] = None
-        #: When bytes went out last, on the clock of `time.monotonic`
-        self.sent = time.monotonic()
 
     async def take(self, count: int) -> bytes:
         """So many bytes. It sets no limit of time: headers and SASL, for which alone it is called, have `Waits.login` for all of them together."""
@@ -96,7 +94,6 @@ class Stream:
         if not self._written:
             self._loop.call_soon(self._write_out)
         self._written += data
-        self.sent = time.monotonic()
 
     def _write_out(self) -> None:
         if self._written:
@@ -104,6 +101,11 @@ class Stream:
             if not self._writer.transport.is_closing():
                 self._writer.write(bytes(self._written))
             self._written.clear()
+
+    @property
+    def certificate(self) -> Optional[Dict[str, Any]]:
+        """The peer's certificate, if TLS has proved one."""
+        return self._writer.get_extra_info("peercert") or None
 
     @property
     def unsent(self) -> int:

@@ -17,7 +17,7 @@ import asyncio
 import contextlib
 import time
 from collections import deque
-from typing import Any, AsyncIterator, Deque, Iterator, Optional
+from typing import Any, AsyncIterator, Deque, Dict, Iterator, Optional
 
 from . import sasl
 from . import opening as begins
@@ -29,9 +29,10 @@ from .serving import Server, ServerEvent
 from .stream import PeerSilent, Stream, Waits, within
 from .values import Malformed
 
-_EMPTY_FRAME = b"\x00\x00\x00\x08\x02\x00\x00\x00"
-#: The least time between two empty frames, in seconds, whatever time-out a peer asks for
+#: The least time after which the library is told the time again, in seconds, whatever time-out a peer asks for
 _BRIEFEST = 0.05
+#: After so many seconds what memory was refused for is handed out again
+_AGAIN = 0.05
 #: How many events a session that is waited for may leave for the iterator
 _MOST_KEPT = 65536
 #: The states in which this side's Close went out, and the peer's is awaited
@@ -76,12 +77,20 @@ class Connection:
         # what came while a session was waited for, and what the engine gives next
         self._kept: Deque[ServerEvent] = deque()
         self._coming: Iterator[ServerEvent] = iter(())
-        self._beats: Optional["asyncio.Task[None]"] = None
+        self._beats: Optional[asyncio.TimerHandle] = None
+        self._start = time.monotonic()
         # until when the peer may answer this side's Close
         self._until: Optional[float] = None
         self._is_begun = False
+        self._again: Optional[asyncio.TimerHandle] = None
         #: Set where bytes were handed to the stream, for a task that waits for the peer to read them, by `drain`
         self.went = asyncio.Event()
+
+    @property
+    def certificate(self) -> Optional[Dict[str, Any]]:
+        """The peer's certificate, as `ssl.SSLSocket.getpeercert` tells it, where `tls` asked for one and it was proved;
+        else `None`."""
+        return self._stream.certificate
 
     # ---- headers and SASL
 
@@ -106,6 +115,7 @@ class Connection:
 
     async def _open(self, opening: Opening, came: bytes, check: Optional[sasl.Check]) -> None:
         self.engine = Engine(self._own, opening=opening, **self._how)
+        self.engine.now = self._now
         try:
             while not await self._passes(came, check):
                 await self.flush()
@@ -155,7 +165,13 @@ class Connection:
         if data:
             self._stream.write(data)
             self.went.set()
+        if self.engine.has_left and self._again is None:
+            self._again = asyncio.get_running_loop().call_later(_AGAIN, self._push_again)
         return len(data)
+
+    def _push_again(self) -> None:
+        self._again = None
+        self.push()
 
     @property
     def unsent(self) -> int:
@@ -273,18 +289,28 @@ class Connection:
     def _keep_alive(self) -> None:
         """From both Opens on an empty frame goes out where else nothing would."""
         if self._beats is None and self.engine.state == "OPENED" and (theirs := self.engine.remote_open) and theirs.idle_time_out:
-            self._beats = asyncio.ensure_future(self._beat(theirs.idle_time_out / 1000))
+            self._tell_time()
 
-    async def _beat(self, limit: float) -> None:
-        with contextlib.suppress(ConnectionError):
-            while True:
-                await asyncio.sleep(max(_BRIEFEST, self._stream.sent + limit / 2 - time.monotonic()))
-                if self.engine.state != "OPENED":
-                    # behind a Close no frame goes out, an empty one neither (AMQP 1.0 part 2, section 2.4.5)
-                    return
-                if time.monotonic() - self._stream.sent >= limit / 2 and not self._stream.drains:
-                    self._stream.write(_EMPTY_FRAME)
-                    await self._stream.drain()
+    def _now(self) -> int:
+        return int((time.monotonic() - self._start) * 1000)
+
+    def _tell_time(self) -> None:
+        """Tells the library the time: an empty frame goes out where one is due, and the peer reads what was sent before.
+        Whether the peer is silent says who waits for it to send: it is not where the program takes nothing."""
+        if self.engine.has_ended:
+            return
+        wait = _BRIEFEST
+        if not self._stream.drains:
+            with contextlib.suppress(MemoryError):
+                wait = max(wait, self._ticked(self._now()))
+        self._beats = asyncio.get_running_loop().call_later(wait, self._tell_time)
+
+    def _ticked(self, now: int) -> float:
+        """In how many seconds the library is to be told the time again."""
+        self.engine.heard(now)
+        tick = self.engine.tick(now)
+        self.push()
+        return 0.0 if tick.next is None else (tick.next + 1 - now) / 1000
 
     # ---- the end
 
@@ -293,6 +319,8 @@ class Connection:
         if self._beats is not None:
             self._beats.cancel()
         try:
+            if self._again is not None:
+                self._again.cancel()
             await self._stream.close()
         finally:
             if hasattr(self, "engine"):

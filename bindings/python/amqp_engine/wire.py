@@ -17,6 +17,8 @@ from .stream import Waits
 from .tracing import Trace
 from .transport import condition_of
 
+#: After so many seconds what memory was refused for is asked for again
+_AGAIN = 0.05
 #: What is told of a record, over the bytes that it came in
 Told = Callable[[Record, bytes], None]
 
@@ -37,17 +39,21 @@ class Wire(asyncio.Protocol):
         self._parts: List[bytes] = []
         self._size = self._wanted = 0
         self._going: List[bytes] = []
-        #: How many bytes were written since the loop went on last
+        #: How many bytes were asked to be sent since the loop went on last
         self.backlog = 0
-        self._is_asked = self._is_over = self.is_paused = False
+        #: Whether what waits goes out once the loop goes on; whether the peer has much to read; whether no Open of its
+        #: has come
+        self.is_asked, self.is_paused, self.is_opening = False, False, True
+        self._is_over = False
         self._timer: Optional[asyncio.TimerHandle] = None
         self._unread: Optional[asyncio.TimerHandle] = None
         self._drained: Deque["asyncio.Future[None]"] = deque()
         self._in, self._out = Trace(name, "<-"), Trace(name, "->")
         #: Called where the peer has read enough that more may be written
         self.resumed: Callable[[], None] = lambda: None
-        #: Called before what waits goes out
+        #: Called before what waits goes out; and with how many bytes were taken from the library
         self.before: Callable[[], None] = lambda: None
+        self.collected: Callable[[int], None] = lambda count: None
 
     # ---- what comes
 
@@ -74,7 +80,8 @@ class Wire(asyncio.Protocol):
             self.fail(error)
         if not self._is_over:
             self.flush()
-            self._tell_time()
+            if self.is_opening:
+                self._tell_time()
 
     def _take(self, data: bytes) -> None:
         at, now = 0, self._now()
@@ -98,20 +105,22 @@ class Wire(asyncio.Protocol):
 
     # ---- what goes
 
-    def write(self, data: bytes) -> None:
-        """Has bytes of the driver's go out, with what else is written before the loop goes on."""
+    def collect(self) -> None:
+        """Takes what was asked for so far from the library; it goes out with what else waits."""
+        data = self.driver.to_send()
         self._going.append(data)
-        self.backlog += len(data)
-        self.ask()
+        self.collected(len(data))
+        if self.driver.has_left:
+            self._loop.call_later(_AGAIN, self.ask)
 
     def ask(self) -> None:
         """Has what waits go out once the loop goes on."""
-        if not self._is_asked:
-            self._is_asked = True
+        if not self.is_asked:
+            self.is_asked = True
             self._loop.call_soon(self._go)
 
     def _go(self) -> None:
-        self._is_asked = False
+        self.is_asked = False
         try:
             self.flush()
         except Exception as error:
@@ -122,7 +131,7 @@ class Wire(asyncio.Protocol):
         if self._is_over or self._transport is None:
             return
         self.before()
-        self._going.append(self.driver.to_send())
+        self.collect()
         data = b"".join(self._going)
         self._going.clear()
         self.backlog = 0
@@ -168,11 +177,21 @@ class Wire(asyncio.Protocol):
     def _now(self) -> int:
         return int((time.monotonic() - self._start) * 1000)
 
+    def opened(self) -> None:
+        """Both Opens have passed: from now on what is due is later with each frame, and no earlier."""
+        self.is_opening = False
+        self._tell_time()
+
     def _tell_time(self) -> None:
         """Tells the library the time, and asks when it wants to be told again. Idle time-outs are the library's."""
         if self._timer is not None:
             self._timer.cancel()
-        tick = self.driver.tick(self._now())
+        try:
+            tick = self.driver.tick(self._now())
+        except MemoryError:
+            # it is told again soon: nothing was done
+            self._timer = self._loop.call_later(_AGAIN, self._tell_time)
+            return
         if tick.due in (DUE_OPENING_LATE, DUE_PEER_SILENT):
             late = tick.due == DUE_OPENING_LATE
             self.fail(ConnectionLost("the connection was not open in time" if late else "the peer is silent"))
@@ -190,15 +209,22 @@ class Wire(asyncio.Protocol):
             return
         try:
             self.driver.close(Error(condition_of(error), str(error) if isinstance(error, Refusal) else None))
-        except Refusal:
+        except (Refusal, MemoryError):
             pass
-        self.flush()
-        self._end(error)
+        self._flush_and_end(error)
 
     def close(self) -> None:
         """Closes the stream; what was written goes out, if the peer reads it soon."""
-        self.flush()
-        self._end(ConnectionLost("this side has closed the connection"))
+        self._flush_and_end(ConnectionLost("this side has closed the connection"))
+
+    def _flush_and_end(self, error: BaseException) -> None:
+        try:
+            self.flush()
+        except MemoryError:
+            # what was written does not go out
+            pass
+        finally:
+            self._end(error)
 
     def _end(self, error: BaseException) -> None:
         if self._is_over:

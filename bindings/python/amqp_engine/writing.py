@@ -13,10 +13,11 @@ from .kinds import (
 )  # fmt: skip
 
 
-def write(value: Any) -> bytes:
-    """The bytes of a value. Raises `TypeError` where no type of AMQP has it, `OverflowError` where it does not fit its type, and `ValueError` where more
-    than 64 values lie inside each other."""
-    return _write(value, 0)
+def write(value: Any, inside: int = 0) -> bytes:
+    """The bytes of a value, which is to lie inside of so many others. Raises `TypeError` where no type of AMQP has it,
+    `OverflowError` where it does not fit its type, and `ValueError` where more than 64 values lie inside each other."""
+    writer = _EXACT.get(type(value))
+    return _write(value, inside) if writer is None else writer(value)
 
 
 def _write(value: Any, depth: int) -> bytes:
@@ -70,7 +71,13 @@ def _moment(value: datetime) -> bytes:
 
 
 def _variable(short: int) -> Callable[[Any], bytes]:
-    return lambda value: _sized(short, _bytes(value))
+    heads = [bytes([short, size]) for size in range(256)]
+
+    def writer(value: Union[str, bytes]) -> bytes:
+        data = value if type(value) is bytes else _bytes(value)
+        return heads[len(data)] + data if len(data) < 256 else _sized(short, data)
+
+    return writer
 
 
 def _bytes(value: Union[str, bytes]) -> bytes:

@@ -1,6 +1,6 @@
 //! What came, as an enum: a record with its places in the bytes that were given.
 
-use crate::events::one;
+use crate::ffi::one;
 use crate::records::{flag, kind};
 use crate::{Condition, Fields, NONE, Outcome, ReceiverSettleMode, Record, Role, SenderSettleMode};
 

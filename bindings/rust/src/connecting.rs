@@ -3,6 +3,7 @@
 use alloc::string::String;
 use alloc::vec::Vec;
 use core::fmt;
+use core::ops::Deref;
 use core::time::Duration;
 use std::fs::File;
 use std::io::{self, Read};
@@ -17,6 +18,8 @@ pub struct Options<'a> {
     pub open: Open<'a>,
     /// The user and the password by which it logs in (PLAIN); without them by ANONYMOUS.
     pub login: Option<(&'a str, &'a str)>,
+    /// Without a login it logs in by EXTERNAL, as who is known by a certificate of TLS, and not by ANONYMOUS.
+    pub is_external: bool,
     /// So long may headers, SASL and both Opens take, and so long a call waits for what the server is to do.
     pub patience: Duration,
 }
@@ -24,7 +27,12 @@ pub struct Options<'a> {
 impl<'a> Options<'a> {
     /// Of a container of this name, which logs in by ANONYMOUS and waits for 20 seconds.
     pub fn new(container_id: &'a str) -> Options<'a> {
-        Options { open: Open::new(container_id), login: None, patience: Duration::from_secs(20) }
+        Options { open: Open::new(container_id), login: None, is_external: false, patience: Duration::from_secs(20) }
+    }
+
+    /// The same that logs in by EXTERNAL (RFC 4422, appendix A).
+    pub fn external(self) -> Options<'a> {
+        Options { is_external: true, login: None, ..self }
     }
 
     /// The same that logs in by PLAIN (RFC 4616).
@@ -74,13 +82,45 @@ impl From<Error> for Failure {
     }
 }
 
-/// A link that is attached: its session, and this side's handle.
-#[derive(Clone, Copy, Debug, PartialEq, Eq)]
+/// A link that is attached: its session, and this side's handle. Calls of another connection refuse it: `NoLink`.
+#[derive(Clone, Copy, Debug, PartialEq, Eq, Hash)]
 pub struct Link {
     /// The session.
     pub session: u32,
     /// This side's handle.
     pub handle: u32,
+    /// Its connection, by a number of this process.
+    pub(crate) of: u32,
+}
+
+/// A link by which this side sends.
+#[derive(Clone, Copy, Debug, PartialEq, Eq, Hash)]
+pub struct Sender(pub(crate) Link);
+
+/// A link by which this side receives.
+///
+/// ```compile_fail,E0308
+/// fn send(mut connection: amqp_engine::Connection, receiver: amqp_engine::Receiver) {
+///     let _ = connection.send_bytes(&receiver, b"it");
+/// }
+/// ```
+#[derive(Clone, Copy, Debug, PartialEq, Eq, Hash)]
+pub struct Receiver(pub(crate) Link);
+
+impl Deref for Sender {
+    type Target = Link;
+
+    fn deref(&self) -> &Link {
+        &self.0
+    }
+}
+
+impl Deref for Receiver {
+    type Target = Link;
+
+    fn deref(&self) -> &Link {
+        &self.0
+    }
 }
 
 /// A delivery that has come, whole.

@@ -28,7 +28,7 @@ pub enum Error {
     NoLink,
     /// The handle has a link already.
     InUse,
-    /// Transfers of the link wait for the peer's window.
+    /// Transfers of the link wait for the peer's window, or a Detach for the peer's Attach.
     HeldBack,
     /// What this version of the library does not answer.
     Unknown(i32),
@@ -77,7 +77,7 @@ impl fmt::Display for Error {
             Error::NotNext => to.write_str("the delivery's number is not the next one"),
             Error::NoLink => to.write_str("no link has the handle, or no handle the name"),
             Error::InUse => to.write_str("the handle has a link already"),
-            Error::HeldBack => to.write_str("transfers of the link wait for the peer's window"),
+            Error::HeldBack => to.write_str("it waits for the peer's window, or its Attach"),
             Error::Unknown(status) => write!(to, "unknown status {status}"),
         }
     }

@@ -1,6 +1,7 @@
 //! What records are to the links of their sessions (AMQP 1.0 part 2, sections 2.6 and 2.7).
 
 use crate::Role;
+use crate::ffi::one;
 
 /// What a record is to the links of its session: the layout is that of the library. A field of which nothing is said is
 /// 0.
@@ -11,7 +12,7 @@ pub struct Event {
     size: u64,
     /// The session.
     pub session: u32,
-    kind: u32,
+    pub(crate) kind: u32,
     /// The link, by this side's handle. [`NONE`](crate::NONE) where it is of none, as where deliveries are settled.
     pub link: u32,
     first: u32,
@@ -19,12 +20,8 @@ pub struct Event {
     detail: u32,
     /// How many deliveries may be begun on the link, by this side or by the peer, after the event.
     pub credit: u32,
-    flags: u32,
+    pub(crate) flags: u32,
 }
-
-const _: () = assert!(
-    size_of::<Event>() == 48 && core::mem::offset_of!(Event, kind) == 20 && core::mem::offset_of!(Event, flags) == 44
-);
 
 /// What an event is.
 #[derive(Clone, Copy, Debug, PartialEq, Eq)]
@@ -175,9 +172,4 @@ impl Event {
     fn says(&self, flag: u32) -> bool {
         self.flags & flag != 0
     }
-}
-
-/// The one of these that has this number, from the first one's on.
-pub(crate) fn one<T: Copy>(of: &[T], first: u32, number: u32) -> Option<T> {
-    of.get(number.checked_sub(first)? as usize).copied()
 }

@@ -1,6 +1,7 @@
 //! The library for C: its functions, and what it lays out.
 
 use core::ffi::{c_char, c_int, c_uint, c_void};
+use core::mem::offset_of;
 
 use crate::opening::Ticked;
 use crate::{Cut, Event, Record, Sent, TransferHead, Unsettled};
@@ -69,8 +70,19 @@ pub(crate) struct Text {
     pub(crate) is_bad: c_int,
 }
 
-const _: () =
-    assert!(size_of::<How>() == 40 && size_of::<Took>() == 24 && size_of::<Told>() == 24 && size_of::<Place>() == 16);
+// The layouts that the library has, of all that goes to it or comes from it.
+const _: () = {
+    assert!(size_of::<Place>() == 16 && size_of::<How>() == 40 && size_of::<LoginHead>() == 8);
+    assert!(size_of::<Took>() == 24 && size_of::<Ticked>() == 16 && size_of::<Went>() == 16);
+    assert!(size_of::<Record>() == 96 && size_of::<TransferHead>() == 20 && size_of::<Sent>() == 8);
+    assert!(size_of::<Cut>() == 48 && size_of::<Told>() == 24 && size_of::<Unsettled>() == 16);
+    assert!(size_of::<Event>() == 48 && offset_of!(Event, kind) == 20 && offset_of!(Event, flags) == 44);
+};
+
+/// The one of these that has this number, from the first one's on.
+pub(crate) fn one<T: Copy>(of: &[T], first: u32, number: u32) -> Option<T> {
+    of.get(number.checked_sub(first)? as usize).copied()
+}
 
 unsafe extern "C" {
     pub(crate) fn amqp1_new(

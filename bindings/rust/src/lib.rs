@@ -3,7 +3,7 @@
 //! own but the content of messages. It is tested, and not proved.
 //!
 //! An [`Engine`] takes bytes and requests, and gives bytes and records of what came. It opens no socket and reads no
-//! clock. [`Connection`], with the feature `std`, is one over a `TcpStream`:
+//! clock. [`Connection`], with the feature `std`, is one over a `TcpStream`, or any stream; for one thread, or several:
 //!
 //! ```no_run
 //! use amqp_engine::{Connection, Message, Options};
@@ -48,13 +48,18 @@ extern crate alloc;
 #[cfg(feature = "std")]
 extern crate std;
 
+#[cfg(feature = "std")]
+mod alone;
 mod answering;
+mod browsing;
 mod came;
 #[cfg(feature = "std")]
 mod connecting;
 mod engine;
 mod errors;
 mod events;
+#[cfg(feature = "std")]
+mod exchange;
 mod ffi;
 mod links;
 mod message;
@@ -63,12 +68,19 @@ mod performatives;
 mod reading;
 mod records;
 #[cfg(feature = "std")]
+mod serving;
+#[cfg(feature = "std")]
+mod shared;
+#[cfg(feature = "std")]
 mod transport;
 
+#[cfg(feature = "std")]
+pub use alone::{Alone, Stream, Timed};
 pub use answering::answers;
+pub use browsing::Browser;
 pub use came::{Came, Delivered, FlowOf, Terms};
 #[cfg(feature = "std")]
-pub use connecting::{Delivery, Failure, Link, Options, Settled};
+pub use connecting::{Delivery, Failure, Link, Options, Receiver, Sender, Settled};
 pub use engine::{Engine, version};
 pub use errors::{Error, Refusal};
 pub use events::{Event, EventKind, Fault, Life, LinkEnd, Part};
@@ -80,5 +92,9 @@ pub use reading::Fields;
 pub use records::{
     Cut, NONE, Outcome, ReceiverSettleMode, Record, Role, SenderSettleMode, Sent, Stop, TransferHead, flag, kind,
 };
+#[cfg(feature = "std")]
+pub use serving::Next;
+#[cfg(feature = "std")]
+pub use shared::{Shared, Split};
 #[cfg(feature = "std")]
 pub use transport::Connection;

@@ -10,7 +10,6 @@
 use core::fmt;
 
 use crate::engine::{error_of, perf};
-use crate::events::one;
 use crate::ffi::*;
 use crate::{Engine, Error, Event, NONE, Outcome, Performative, Record, Role, TransferHead};
 
@@ -105,8 +104,6 @@ pub struct Unsettled {
     /// Its link, by this side's handle.
     pub link: u32,
 }
-
-const _: () = assert!(size_of::<Unsettled>() == 16);
 
 /// Why a transfer was not sent, by the status, and by the number of the refusal.
 fn not_sent(status: i32, refusal: u32) -> NotSent {
@@ -211,8 +208,8 @@ impl Engine {
 
     /// Sends a Detach of a link (section 2.6.5), which ends it for good where `closed` (section 2.6.6), with an error
     /// or with none. False where no end has the handle, or this side's was sent before. `BadArgument`: it is no
-    /// error. `HeldBack`: transfers of the link wait for the peer's window. `NoMemory`, `Refused`: the link stands as
-    /// before.
+    /// error. `HeldBack`: transfers of the link wait for the peer's window, or the peer's Attach is still to come.
+    /// `NoMemory`, `Refused`: the link stands as before.
     pub fn link_detach(
         &mut self,
         session: u32,

@@ -4,7 +4,7 @@
 use alloc::vec::Vec;
 
 use crate::engine::{Operation, perf};
-use crate::ffi::{How, LoginHead, Place, Took, amqp1_heard, amqp1_new, amqp1_take, amqp1_tick};
+use crate::ffi::{How, LoginHead, Place, Took, amqp1_heard, amqp1_new, amqp1_take, amqp1_tick, one};
 use crate::records::stop;
 use crate::{Engine, Error, NONE, Performative, Record, Stop};
 
@@ -169,7 +169,8 @@ impl Engine {
         let mut ticked = Ticked::default();
         let status = unsafe { amqp1_tick(&mut self.place, now, &mut ticked) };
         self.outcome(status)?;
-        let due = [Due::Nothing, Due::Beat, Due::OpeningLate, Due::PeerSilent][(ticked.due & 3) as usize];
+        let all = [Due::Nothing, Due::Beat, Due::OpeningLate, Due::PeerSilent];
+        let due = one(&all, 0, ticked.due).unwrap_or(Due::Nothing);
         Ok(Tick { due, next: (ticked.next != u64::MAX).then_some(ticked.next) })
     }
 

@@ -2,6 +2,7 @@
 //! them.
 
 use crate::Error;
+use crate::ffi::one;
 
 /// What one received frame says: the layout is that of the library. A field of which the frame says nothing is 0;
 /// `session`, `output` and `input` are [`NONE`] then. `include/amqp1/records.h` says what each is.
@@ -219,7 +220,7 @@ impl Outcome {
     /// The one that a record tells.
     pub fn of(number: u8) -> Outcome {
         use Outcome::*;
-        [NoState, Accepted, Rejected, Released, Modified, Received].get(usize::from(number)).copied().unwrap_or(Other)
+        one(&[NoState, Accepted, Rejected, Released, Modified, Received], 0, number.into()).unwrap_or(Other)
     }
 }
 

@@ -1,160 +1,190 @@
-//! A connection over a `TcpStream`, by calls that wait, in one thread. It has no AMQP of its own: the engine says what
-//! goes out, and when.
+//! A connection over a stream, by calls that wait. It has no AMQP of its own: the engine says what goes out, and when.
 
-use alloc::collections::VecDeque;
 use alloc::format;
-use alloc::string::{String, ToString};
-use alloc::vec::Vec;
-use core::mem::take;
 use core::time::Duration;
-use std::io::{self, Read, Write};
 use std::net::{TcpStream, ToSocketAddrs};
 use std::time::Instant;
 
+use crate::alone::{Alone, Stream, Way};
 use crate::connecting::{key, socket};
+use crate::exchange::Exchange;
 use crate::{
-    Begin, Came, Delivery, Disposition, Engine, Error, Event, EventKind, Failure, Life, Link, Login, Message, NotSent,
-    Opening, Options, Outcome, Part, Record, Role, Settled, Stop, TransferHead, Wish, answers, flag,
+    Attach, Begin, Browser, Delivery, Disposition, Engine, Error, Failure, Link, Login, Message, Opening, Options,
+    Outcome, Performative, Receiver, Role, Sender, Settled, Wish,
 };
 
-/// A client's connection: a socket, an engine, and what came and was not yet asked for. Each call writes what waits,
-/// and waits no longer than the options say. Empty frames go out while a call waits, and in no other time: a program
-/// that lets much time pass calls [`Connection::wait`].
-pub struct Connection {
-    engine: Engine,
-    stream: TcpStream,
-    began: Instant,
-    patience: Duration,
-    came: Vec<u8>,
-    sessions: u32,
-    tags: u32,
-    parts: Vec<Delivery>,
-    whole: VecDeque<Delivery>,
-    settled: VecDeque<Settled>,
-    attached: Vec<(Link, Role)>,
-    ended: Vec<(Link, String)>,
-    over: Option<String>,
+/// A connection: a stream, an engine, and what came and was not yet asked for. Each call writes what waits, and waits
+/// no longer than the options say.
+///
+/// One thread has it, over any [`Stream`]; or several do, by [`Connection::share`]. With one thread, empty frames go
+/// out while a call waits, and in no other time: a program that lets much time pass calls [`Connection::wait`].
+#[derive(Clone)]
+pub struct Connection<W = Alone<TcpStream>> {
+    pub(crate) way: W,
 }
 
-impl Connection {
+impl Connection<Alone<TcpStream>> {
     /// Connects to a server, logs in, and waits for its Open.
-    pub fn connect(address: impl ToSocketAddrs, options: &Options) -> Result<Connection, Failure> {
+    pub fn connect(address: impl ToSocketAddrs, options: &Options) -> Result<Self, Failure> {
+        Connection::over(socket(address, options.patience)?, options)
+    }
+}
+
+impl<S: Stream> Connection<Alone<S>> {
+    /// The same over a stream that is connected to the server, as one of TLS.
+    pub fn over(stream: S, options: &Options) -> Result<Connection<Alone<S>>, Failure> {
         let plain = options.login.map(|(user, password)| format!("\0{user}\0{password}"));
-        let login =
-            plain.as_ref().map_or(Login::anonymous(), |it| Login { mechanism: "PLAIN", response: Some(it.as_bytes()) });
+        let login = match &plain {
+            Some(it) => Login { mechanism: "PLAIN", response: Some(it.as_bytes()) },
+            None if options.is_external => Login::external(),
+            None => Login::anonymous(),
+        };
         let opening = Opening::Client { logins: &[login], host: options.open.hostname };
         let limit = u32::try_from(options.patience.as_millis()).ok();
         let engine = Engine::with_opening(key()?, &options.open, &opening, 0, limit)?;
-        let stream = socket(address, options.patience)?;
-        let mut it = Connection::over(engine, stream, options.patience);
-        it.engine.open()?;
-        it.until(|it| Ok((!it.engine.remote_open()?.is_empty()).then_some(())))?;
-        Ok(it)
+        Connection::opened(Alone::new(Exchange::new(engine, None), stream, options.patience))
     }
 
-    fn over(engine: Engine, stream: TcpStream, patience: Duration) -> Connection {
-        let (parts, whole, settled, attached, ended) =
-            (Vec::new(), VecDeque::new(), VecDeque::new(), Vec::new(), Vec::new());
-        let (began, came) = (Instant::now(), Vec::new());
-        Connection {
-            engine,
-            stream,
-            began,
-            patience,
-            came,
-            sessions: 0,
-            tags: 0,
-            parts,
-            whole,
-            settled,
-            attached,
-            ended,
-            over: None,
-        }
+    /// Opens, and waits for the peer's Open.
+    pub(crate) fn opened(way: Alone<S>) -> Result<Connection<Alone<S>>, Failure> {
+        let mut it = Connection { way };
+        it.way.exchange.engine.open()?;
+        it.until(|it| Ok((!it.engine.remote_open()?.is_empty()).then_some(())))?;
+        it.way.flush()?;
+        Ok(it)
     }
 
     /// The engine, for calls that this has not. What they ask for goes out with the next call that waits.
     pub fn engine(&mut self) -> &mut Engine {
-        &mut self.engine
+        &mut self.way.exchange.engine
     }
 
-    /// Begins a session, and waits for the server's Begin: its number.
+    /// Takes what comes, and sends empty frames where they are due, for so long.
+    pub fn wait(&mut self, time: Duration) -> Result<(), Failure> {
+        self.way.wait(time)?.map_or(Ok(()), |what| Err(Failure::Peer(what)))
+    }
+}
+
+impl<W: Way> Connection<W> {
+    pub(crate) fn until<T>(
+        &mut self,
+        look: impl FnMut(&mut Exchange) -> Result<Option<T>, Failure>,
+    ) -> Result<T, Failure> {
+        self.way.until(look)
+    }
+
+    /// Begins a session, and waits for the peer's Begin: its number.
     pub fn begin(&mut self) -> Result<u32, Failure> {
-        let session = self.sessions;
-        self.engine.begin(session, &Begin::default())?;
-        self.sessions += 1;
+        let session = self.way.with(|it| {
+            it.engine.begin(it.sessions, &Begin::default())?;
+            it.sessions += 1;
+            Ok::<u32, Error>(it.sessions - 1)
+        })?;
         self.until(|it| Ok((it.engine.session_state(session)? == Some(3)).then_some(session)))
     }
 
-    /// Attaches a sender to an address, and waits for the server's Attach.
-    pub fn sender(&mut self, session: u32, name: &str, address: &str) -> Result<Link, Failure> {
-        self.attach(session, Role::Sender, &crate::Attach::sender(name, address), 0)
+    /// Attaches a sender to an address, and waits for the peer's Attach.
+    pub fn sender(&mut self, session: u32, name: &str, address: &str) -> Result<Sender, Failure> {
+        self.sender_by(session, &Attach::sender(name, address))
+    }
+
+    /// The same by an Attach: `BadArgument` of a receiver's.
+    pub fn sender_by(&mut self, session: u32, attach: &Attach) -> Result<Sender, Failure> {
+        if attach.role != Role::Sender {
+            return Err(Error::BadArgument.into());
+        }
+        self.attach_by(session, attach, attach, 0).map(Sender)
     }
 
     /// Attaches a receiver from an address, which has credit for so many messages and renews it; with 0
     /// [`Connection::grant`] gives it.
-    pub fn receiver(&mut self, session: u32, name: &str, address: &str, credit: u32) -> Result<Link, Failure> {
-        self.attach(session, Role::Receiver, &crate::Attach::receiver(name, address), credit)
+    pub fn receiver(&mut self, session: u32, name: &str, address: &str, credit: u32) -> Result<Receiver, Failure> {
+        self.receiver_by(session, &Attach::receiver(name, address), credit)
     }
 
-    fn attach(&mut self, session: u32, role: Role, attach: &crate::Attach, high: u32) -> Result<Link, Failure> {
-        self.engine.link(session, role, attach.rcv_settle_mode, attach.name)?;
-        let link = Link { session, handle: self.engine.link_attach(session, attach, high - high / 2, high)? };
-        self.ended.retain(|it| it.0 != link);
-        self.until(|it| it.on(link, |it| Ok(it.attached.iter().any(|it| it.0 == link).then_some(()))))?;
-        Ok(link)
+    /// The same by an Attach: `BadArgument` of a sender's.
+    pub fn receiver_by(&mut self, session: u32, attach: &Attach, credit: u32) -> Result<Receiver, Failure> {
+        if attach.role != Role::Receiver {
+            return Err(Error::BadArgument.into());
+        }
+        self.attach_by(session, attach, attach, credit).map(Receiver)
+    }
+
+    /// Attaches a receiver that browses, with credit for so many messages, and waits for the peer's Attach.
+    pub fn browser(&mut self, session: u32, name: &str, address: &str, credit: u32) -> Result<Receiver, Failure> {
+        self.attach_by(session, &Attach::receiver(name, address), &Browser { name, address }, credit).map(Receiver)
+    }
+
+    /// Attaches a link, and waits for the peer's Attach: by one of which this knows name, role and modes.
+    fn attach_by(
+        &mut self,
+        session: u32,
+        of: &Attach,
+        attach: &impl Performative,
+        credit: u32,
+    ) -> Result<Link, Failure> {
+        let link = self.way.with(|it| {
+            it.engine.link(session, of.role, of.rcv_settle_mode, of.name)?;
+            let handle = it.engine.link_attach(session, attach, credit - credit / 2, credit)?;
+            let link = it.link(session, handle);
+            it.ended.retain(|it| it.0 != link);
+            Ok::<Link, Error>(link)
+        })?;
+        self.until(|it| it.on(link, |it| Ok(it.attached.iter().any(|it| it.0 == link).then_some(link))))
     }
 
     /// Gives a receiver credit for so many messages, whatever it had.
-    pub fn grant(&mut self, link: Link, credit: u32) -> Result<(), Failure> {
-        self.engine.link_flow(link.session, link.handle, Wish::Grant(credit))?;
-        self.flush()
+    pub fn grant(&mut self, link: &Receiver, credit: u32) -> Result<(), Failure> {
+        self.wish(link, Wish::Grant(credit))
+    }
+
+    /// Has a receiver's sender use its credit up.
+    pub fn drain(&mut self, link: &Receiver) -> Result<(), Failure> {
+        self.wish(link, Wish::Drain)
+    }
+
+    fn wish(&mut self, link: &Link, wish: Wish) -> Result<(), Failure> {
+        self.way.with(|it| it.has(*link).and_then(|()| it.engine.link_flow(link.session, link.handle, wish)))?;
+        self.way.flush()
     }
 
     /// Sends a message, once there is credit for it: its number.
-    pub fn send(&mut self, link: &Link, message: &Message) -> Result<u32, Failure> {
+    pub fn send(&mut self, link: &Sender, message: &Message) -> Result<u32, Failure> {
         self.send_bytes(link, &message.bytes()?)
     }
 
     /// The same of a message's bytes.
-    pub fn send_bytes(&mut self, link: &Link, payload: &[u8]) -> Result<u32, Failure> {
-        let bytes = [&self.tags.to_be_bytes(), payload].concat();
-        let size = u32::try_from(payload.len()).map_err(|_| Error::BadArgument)?;
-        let flags = flag::NUMBERED | flag::TAGGED | flag::FORMATTED;
-        let mut head =
-            TransferHead { session: link.session, link: link.handle, format: 0, payload: size, flags, tag_size: 4 };
-        let mut at = 0;
-        self.tags = self.tags.wrapping_add(1);
-        loop {
-            let cut = self.engine.cut(&head, &bytes[at..])?;
-            let number = self.send_part(*link, &cut.part, &bytes[at..])?;
-            at += usize::from(cut.part.tag_size) + cut.part.payload as usize;
-            if cut.more == 0 {
-                return self.flush().map(|()| number);
-            }
-            head = cut.rest;
-        }
+    pub fn send_bytes(&mut self, link: &Sender, payload: &[u8]) -> Result<u32, Failure> {
+        let link = link.0;
+        let number = self.until(|it| it.on(link, |it| it.send(link, payload)))?;
+        self.way.flush().map(|()| number)
     }
 
-    /// Sends a part; the first one of a delivery waits for credit.
-    fn send_part(&mut self, link: Link, part: &TransferHead, bytes: &[u8]) -> Result<u32, Failure> {
-        self.until(|it| {
-            it.on(link, |it| match it.engine.link_send(part, bytes, 0) {
-                Ok(told) => Ok(Some(told.number)),
-                Err(NotSent::NoCredit) => Ok(None),
-                Err(why) => Err(Failure::NotSent(why)),
-            })
-        })
+    /// Sends a message's bytes where there is credit for it now: its number.
+    pub fn try_send(&mut self, link: &Sender, payload: &[u8]) -> Result<Option<u32>, Failure> {
+        let link = link.0;
+        let number = self.way.with(|it| it.on(link, |it| it.send(link, payload)))?;
+        self.way.flush().map(|()| number)
     }
 
-    /// Waits for the next message that the server settles, or that is left unsettled by a link that goes.
+    /// Waits for the next message that the peer settles, or that is left unsettled by a link that goes.
     pub fn settled(&mut self) -> Result<Settled, Failure> {
         self.until(|it| Ok(it.settled.pop_front()))
     }
 
+    /// The same of one message, which was sent on this link under this number.
+    pub fn settled_of(&mut self, link: &Sender, number: u32) -> Result<Settled, Failure> {
+        let of = (link.0, number);
+        self.until(|it| {
+            it.has(of.0)?;
+            let at = it.settled.iter().position(|it| (it.link, it.number) == of);
+            Ok(at.and_then(|at| it.settled.remove(at)))
+        })
+    }
+
     /// Waits for the next whole delivery on a link.
-    pub fn receive(&mut self, link: &Link) -> Result<Delivery, Failure> {
-        let link = *link;
+    pub fn receive(&mut self, link: &Receiver) -> Result<Delivery, Failure> {
+        let link = link.0;
         self.until(|it| match it.whole.iter().position(|it| it.link == link) {
             Some(at) => Ok(it.whole.remove(at)),
             None => it.on(link, |_| Ok(None)),
@@ -169,17 +199,23 @@ impl Connection {
     /// Settles a delivery by another outcome: accepted, rejected, released or modified.
     pub fn settle(&mut self, delivery: &Delivery, outcome: Outcome) -> Result<(), Failure> {
         let (session, first) = (delivery.link.session, delivery.number);
-        if !delivery.is_settled {
-            let disposition = Disposition { role: Role::Receiver, first, last: first, settled: true, outcome };
-            self.engine.link_dispose(session, &disposition)?;
-            while self.engine.link_settled(session, Role::Receiver, first, first)?.is_some() {}
+        if delivery.is_settled {
+            return self.way.flush();
         }
-        self.flush()
+        let disposition = Disposition { role: Role::Receiver, first, last: first, settled: true, outcome };
+        self.way.with(|it| {
+            it.has(delivery.link)?;
+            it.engine.link_dispose(session, &disposition)?;
+            while it.engine.link_settled(session, Role::Receiver, first, first)?.is_some() {}
+            Ok::<(), Error>(())
+        })?;
+        self.way.flush()
     }
 
-    /// Detaches a link for good, and waits for the server's Detach.
+    /// Detaches a link for good, and waits for the peer's Detach.
     pub fn detach(&mut self, link: &Link) -> Result<(), Failure> {
         let link = *link;
+        self.way.with(|it| it.has(link))?;
         self.until(|it| match it.engine.link_detach(link.session, link.handle, true, None) {
             Err(Error::HeldBack) => Ok(None),
             done => Ok(Some(done?)),
@@ -187,211 +223,13 @@ impl Connection {
         self.until(|it| Ok(it.ended.iter().any(|it| it.0 == link).then_some(())))
     }
 
-    /// Closes, and waits for the server's Close.
+    /// Closes, and waits for the peer's Close.
     pub fn close(mut self) -> Result<(), Failure> {
-        self.engine.close(None)?;
+        self.way.with(|it| it.engine.close(None))?;
         let began = Instant::now();
-        while !self.engine.is_over()? {
-            self.step(began)?;
+        while !self.way.with(|it| it.engine.is_over())? {
+            self.way.step(began)?;
         }
-        self.flush()
+        self.way.flush()
     }
-
-    /// Takes what comes, and sends empty frames where they are due, for so long.
-    pub fn wait(&mut self, time: Duration) -> Result<(), Failure> {
-        let began = Instant::now();
-        while began.elapsed() < time && self.over.is_none() {
-            self.flush()?;
-            if self.read(time.saturating_sub(began.elapsed()))? {
-                self.take_all()?;
-            }
-        }
-        self.flush()?;
-        self.over.clone().map_or(Ok(()), |what| Err(Failure::Peer(what)))
-    }
-
-    /// What is so of a link; an error where the server has ended it.
-    fn on<T>(
-        &mut self,
-        link: Link,
-        look: impl FnOnce(&mut Self) -> Result<Option<T>, Failure>,
-    ) -> Result<Option<T>, Failure> {
-        match self.ended.iter().find(|it| it.0 == link) {
-            Some((_, why)) => Err(Failure::Peer(why.clone())),
-            None => look(self),
-        }
-    }
-
-    /// Waits until there is what is looked for.
-    fn until<T>(&mut self, mut look: impl FnMut(&mut Self) -> Result<Option<T>, Failure>) -> Result<T, Failure> {
-        let began = Instant::now();
-        loop {
-            if let Some(found) = look(self)? {
-                return Ok(found);
-            }
-            if let Some(what) = self.over.clone() {
-                // what answers the peer goes out, if it still can
-                let _ = self.flush();
-                return Err(Failure::Peer(what));
-            }
-            self.step(began)?;
-        }
-    }
-
-    /// Writes what waits, and takes what comes; no longer than the options say from `began` on.
-    fn step(&mut self, began: Instant) -> Result<(), Failure> {
-        let left = self.patience.checked_sub(began.elapsed()).ok_or(Failure::Silent)?;
-        self.flush()?;
-        if self.read(left)? { self.take_all() } else { Ok(()) }
-    }
-
-    fn now(&self) -> u64 {
-        self.began.elapsed().as_millis() as u64
-    }
-
-    /// Tells the time, and writes what waits.
-    fn flush(&mut self) -> Result<(), Failure> {
-        let mut out = Vec::new();
-        self.engine.tick(self.now())?;
-        let done = self.engine.send(&mut out);
-        self.stream.write_all(&out)?;
-        Ok(done?)
-    }
-
-    /// Reads some bytes, where they come before this time, and before the engine wants to be told the time.
-    fn read(&mut self, left: Duration) -> Result<bool, Failure> {
-        let (now, mut room) = (self.now(), [0; 1 << 16]);
-        let next = self.engine.tick(now)?.next.map_or(left, |it| Duration::from_millis(it.saturating_sub(now)));
-        self.stream.set_read_timeout(Some(next.min(left).max(Duration::from_millis(1))))?;
-        match self.stream.read(&mut room) {
-            Ok(0) => Err(io::Error::from(io::ErrorKind::UnexpectedEof).into()),
-            Ok(count) => {
-                self.came.extend_from_slice(&room[..count]);
-                Ok(true)
-            }
-            Err(error)
-                if matches!(
-                    error.kind(),
-                    io::ErrorKind::WouldBlock | io::ErrorKind::TimedOut | io::ErrorKind::Interrupted
-                ) =>
-            {
-                Ok(false)
-            }
-            Err(error) => Err(error.into()),
-        }
-    }
-
-    /// Takes what came, a few records at a time.
-    fn take_all(&mut self) -> Result<(), Failure> {
-        let (mut came, mut at) = (take(&mut self.came), 0);
-        loop {
-            let mut records = [Record::default(); 16];
-            let (taken, written, stop) = self.engine.take_at(self.now(), &came[at..], &mut records)?;
-            for record in &records[..written] {
-                self.on_record(record, &came[at..])?;
-            }
-            at += taken;
-            if !matches!(stop, Stop::Again | Stop::Full | Stop::NoMemory) {
-                break;
-            }
-        }
-        came.drain(..at);
-        self.came = came;
-        Ok(())
-    }
-
-    fn on_record(&mut self, record: &Record, came: &[u8]) -> Result<(), Failure> {
-        let event = self.engine.link_event(record, 0)?;
-        self.on_event(record, &event, came)?;
-        self.respond(&event)?;
-        while let Some(due) = self.engine.link_due(record.session)? {
-            self.respond(&due)?;
-        }
-        if let EventKind::Ended { .. } = event.kind() {
-            self.let_go(Link { session: event.session, handle: event.link })?;
-        }
-        match record.read(came) {
-            Came::NotOpened { refusal, .. } | Came::Refused { refusal, .. } => {
-                self.over = Some(format!("refused: {}", self.engine.refusal_text(refusal)?.0));
-            }
-            // what answers this side's End finds no session that the peer has ended
-            Came::Ended { session, error } if self.engine.session_state(session)? == Some(5) => {
-                self.over = Some(why("ends a session", error))
-            }
-            Came::Closed { error } => self.over = Some(why("closes", error)),
-            _ => {}
-        }
-        if !self.engine.is_over()? {
-            self.engine.answer(record, came, answers::ENDS | answers::CLOSES | answers::REFUSALS, 0)?;
-        }
-        Ok(())
-    }
-
-    /// Sends what a link owes; what is held back is told again by `link_due`.
-    fn respond(&mut self, event: &Event) -> Result<(), Failure> {
-        match self.engine.link_respond(event, 0) {
-            Ok(_) | Err(Error::HeldBack) => Ok(()),
-            Err(error) => Err(error.into()),
-        }
-    }
-
-    fn on_event(&mut self, record: &Record, event: &Event, came: &[u8]) -> Result<(), Failure> {
-        let link = Link { session: event.session, handle: event.link };
-        match event.kind() {
-            EventKind::Attached(Life::Attached) => {
-                let role = if record.has(flag::RECEIVER) { Role::Sender } else { Role::Receiver };
-                self.attached.push((link, role));
-            }
-            EventKind::Part(part) => self.on_part(link, &part, record.payload(came)),
-            EventKind::Fault(fault) => self.ended.push((link, format!("{fault:?}"))),
-            EventKind::Ended { .. } => match record.read(came) {
-                Came::Detached { error, .. } => self.ended.push((link, why("detaches", error))),
-                _ => self.ended.push((link, why("detaches", None))),
-            },
-            EventKind::Settled { role: Role::Sender, first, last, .. } => {
-                while let Some(it) = self.engine.link_settled(event.session, Role::Sender, first, last)? {
-                    let (link, outcome) =
-                        (Link { session: event.session, handle: it.link }, Outcome::of(record.outcome));
-                    self.settled.push_back(Settled { link, number: it.number, outcome });
-                }
-            }
-            EventKind::Settled { role, first, last, .. } => {
-                while self.engine.link_settled(event.session, role, first, last)?.is_some() {}
-            }
-            _ => {}
-        }
-        Ok(())
-    }
-
-    /// A link is over: what it sent and is unsettled is told, and its handle is free.
-    fn let_go(&mut self, link: Link) -> Result<(), Failure> {
-        let sends = self.attached.contains(&(link, Role::Sender));
-        self.attached.retain(|it| it.0 != link);
-        self.parts.retain(|it| it.link != link);
-        while let Some(it) = self.engine.link_left(link.session, link.handle)? {
-            self.settled.extend(sends.then_some(Settled { link, number: it.number, outcome: Outcome::NoState }));
-        }
-        Ok(self.engine.link_remove(link.session, link.handle)?)
-    }
-
-    /// A part goes to its delivery, which is handed on once it is whole.
-    fn on_part(&mut self, link: Link, part: &Part, payload: &[u8]) {
-        if part.is_first {
-            self.parts.push(Delivery { link, number: part.number, payload: Vec::new(), is_settled: false });
-        }
-        let Some(at) = self.parts.iter().position(|it| (it.link, it.number) == (link, part.number)) else { return };
-        self.parts[at].payload.extend_from_slice(payload);
-        self.parts[at].is_settled = part.is_presettled;
-        if part.is_last {
-            let delivery = self.parts.swap_remove(at);
-            self.whole.extend((!part.is_aborted).then_some(delivery));
-        }
-    }
-}
-
-/// What the peer did, with its condition.
-fn why(what: &str, error: Option<crate::Condition>) -> String {
-    error.map_or(what.to_string(), |it| {
-        format!("{what}: {} {}", it.condition, it.description.unwrap_or_default()).trim_end().to_string()
-    })
 }

@@ -172,7 +172,7 @@ fn connected(options: &Options) -> (Connection, u32, JoinHandle<(bool, Vec<Outco
 fn messages_go_there_and_back() {
     let (mut connection, session, served) = connected(&Options::new("me").plain("me", "secret"));
     let sender = connection.sender(session, "to", "q").unwrap();
-    assert_eq!(sender, Link { session: 0, handle: 0 });
+    assert_eq!((sender.session, sender.handle), (0, 0));
     for number in 0..20 {
         let id = number.to_string();
         let properties = Properties { message_id: Some(&id), ..Properties::default() };
@@ -182,7 +182,7 @@ fn messages_go_there_and_back() {
         let settled = connection.settled().unwrap();
         assert_eq!(
             (settled, settled.is_accepted()),
-            (Settled { link: sender, number, outcome: Outcome::Accepted }, true)
+            (Settled { link: *sender, number, outcome: Outcome::Accepted }, true)
         );
     }
     let receiver = connection.receiver(session, "from", "q", 4).unwrap();
@@ -190,7 +190,7 @@ fn messages_go_there_and_back() {
         let delivery = connection.receive(&receiver).unwrap();
         let message = Message::read(&delivery.payload).unwrap();
         assert_eq!((message.properties.message_id, message.body), (Some(&number.to_string()[..]), &b"hello"[..]));
-        assert_eq!((delivery.link, delivery.is_settled), (receiver, false));
+        assert_eq!((delivery.link, delivery.is_settled), (*receiver, false));
         match number {
             0 => connection.settle(&delivery, Outcome::Rejected).unwrap(),
             1 => connection.settle(&delivery, Outcome::Released).unwrap(),
@@ -212,7 +212,7 @@ fn a_long_message_goes_in_parts() {
     let receiver = connection.receiver(session, "from", "q", 0).unwrap();
     let long: Vec<u8> = (0..50_000_u32).map(|at| at as u8).collect();
     connection.send_bytes(&sender, &long).unwrap();
-    connection.grant(receiver, 1).unwrap();
+    connection.grant(&receiver, 1).unwrap();
     // another session begins and ends, and what goes on in this one goes on
     let other = connection.begin().unwrap();
     connection.engine().end(other, None).unwrap();

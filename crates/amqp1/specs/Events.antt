@@ -1,6 +1,6 @@
 -- Part: other calls.
 -- What a record is to the links of its session, in the numbers that C is told; and what a link may owe for it.
-use Rattle.std.specs.Prelude.{ℕ, Bool, ◌+◌, ◌/◌, ◌%◌, Option, Some, None, if◌then◌else◌, is_some, nat_eq}
+use Rattle.std.specs.Prelude.{ℕ, Bool, true, false, ◌+◌, ◌/◌, ◌%◌, Option, Some, None, if◌then◌else◌, is_some, nat_eq}
 use Rattle.amqp_types.specs.declared.definitions.Role.{Role}
 use Rattle.amqp_types.specs.declared.definitions.Role.TheVariants.{Sender, Receiver}
 use Rattle.amqp_credit.specs.declared.part.PartEnd.{PartEnd}
@@ -93,6 +93,11 @@ part_event n h p credit = record (plain_event n 3 h 0 credit) {
   flags = part_flags p;
 }
 
+-- a transfer that names its delivery by this number, or names none
+abbrev pub numbered_event : Option ℕ → Event → Event
+numbered_event None e = e
+numbered_event (Some n) e = record e { first = n; last = n; flags = 256 }
+
 -- deliveries that are settled are of no link, so there is no credit
 abbrev pub settled_event : ℕ → Role → ℕ → ℕ → Bool → Event
 settled_event n role first last by_peer =
@@ -103,8 +108,8 @@ event_of n event.Nothing credit = plain_event n 0 4294967295 0 credit
 event_of n (event.Attached h l) credit = plain_event n 1 h (life_number l) credit
 event_of n (event.Flow h used) credit = plain_event n 2 h used credit
 event_of n (event.Part h p) credit = part_event n h p credit
-event_of n (event.PassedOver h) credit = plain_event n 4 h 0 credit
-event_of n (event.Fault h f) credit = plain_event n 5 h (fault_number f) credit
+event_of n (event.PassedOver h number) credit = numbered_event number (plain_event n 4 h 0 credit)
+event_of n (event.Fault h f number) credit = numbered_event number (plain_event n 5 h (fault_number f) credit)
 event_of n (event.Settled role first last by_peer) credit = settled_event n role first last by_peer
 event_of n (event.Ended h e closed) credit = record (plain_event n 7 h (end_number e) credit) { flags = bit closed 32 }
 event_of n (event.Due h) credit = plain_event n 8 h 0 credit
@@ -114,29 +119,41 @@ abbrev pub link_of : LinkEvent → ℕ
 link_of (event.Attached h l) = h
 link_of (event.Flow h used) = h
 link_of (event.Part h p) = h
-link_of (event.PassedOver h) = h
-link_of (event.Fault h f) = h
+link_of (event.PassedOver h n) = h
+link_of (event.Fault h f n) = h
 link_of (event.Ended h e closed) = h
 link_of (event.Due h) = h
 link_of e = 4294967295
 
 -- ---- and back: what a link may owe for it
 
-abbrev pub fault_asked : ℕ → Option LinkFault → LinkEvent
-fault_asked h None = event.Nothing
-fault_asked h (Some f) = event.Fault h f
+-- the number of its delivery, where it names one
+abbrev pub number_asked : Event → Option ℕ
+number_asked e = if nat_eq (e.flags / 256 % 2) 1 then Some e.first else None
+
+abbrev pub fault_asked : Event → Option LinkFault → LinkEvent
+fault_asked e None = event.Nothing
+fault_asked e (Some f) = event.Fault e.link f (number_asked e)
+
+-- of a delivery the number alone counts, and what was given with it
+abbrev pub part_asked : Event → ReceivedPart
+part_asked e = record {
+  part = record { number = e.first; is_first = false; end = Last; settled = true; size = 0 };
+  settled = if nat_eq (e.flags / 16 % 2) 1 then Some e.given else None;
+}
 
 -- the role of this side
 abbrev pub role_asked : ℕ → Role
 role_asked flags = if nat_eq (flags / 64 % 2) 1 then Receiver else Sender
 
--- A part asks for what an Attach asks for: that credit is renewed. Which Detach it was is of no matter.
+-- Which Detach it was is of no matter.
 abbrev pub event_asked : Event → LinkEvent
 event_asked e =
     if nat_eq e.kind 1 then event.Attached e.link life.Attached else
-    if nat_eq e.kind 3 then event.Attached e.link life.Attached else
+    if nat_eq e.kind 3 then event.Part e.link (part_asked e) else
+    if nat_eq e.kind 4 then event.PassedOver e.link (number_asked e) else
     if nat_eq e.kind 2 then event.Flow e.link e.detail else
-    if nat_eq e.kind 5 then fault_asked e.link (fault_at e.detail) else
+    if nat_eq e.kind 5 then fault_asked e (fault_at e.detail) else
     if nat_eq e.kind 7 then event.Ended e.link end.ByPeer (nat_eq (e.flags / 32 % 2) 1) else
     if nat_eq e.kind 6 then event.Settled (role_asked e.flags) e.first e.last (nat_eq (e.flags / 128 % 2) 1) else
     if nat_eq e.kind 8 then event.Due e.link else event.Nothing

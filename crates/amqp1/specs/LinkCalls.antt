@@ -34,7 +34,8 @@ use Rattle.amqp_endpoints.specs.declared.event.LinkEvent.TheVariants.{Nothing}
 use Rattle.amqp_endpoints.specs.declared.event.RecordError.{RecordError}
 use Rattle.amqp_endpoints.specs.Attaching.{AttachesUnder}
 use Rattle.amqp_endpoints.specs.Endpoint.{EndpointView, LeavesReceived, LeavesSent, Removes, SettlesNext}
-use Rattle.amqp_endpoints.specs.Flowing.{Detaches, Responds, SaysFlow}
+use Rattle.amqp_endpoints.specs.Flowing.{Detaches, SaysFlow}
+use Rattle.amqp_endpoints.specs.Responding.{Responds}
 use Rattle.amqp_endpoints.specs.Reading.{first_attach}
 use Rattle.amqp_endpoints.specs.Sending.{SendsDelivery}
 use Rattle.amqp_endpoints.specs.Settling.{LeavesNext, SettlesAs, SettlesBy}

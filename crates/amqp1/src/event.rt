@@ -1,10 +1,11 @@
 //! What a record is to the links of its session, in numbers.
 
 ghost use Rattle.std.specs.Prelude.{◌≡◌};
-ghost use Rattle.amqp1.specs.Events.{end_number, ending_flag, event_asked, event_of, fault_at, fault_number, given_flag, given_or_none, life_number, link_of, part_event, part_flags, role_flag, settled_event};
+ghost use Rattle.amqp1.specs.Events.{end_number, ending_flag, event_asked, event_of, fault_at, fault_number, given_flag, given_or_none, life_number, link_of};
+ghost use Rattle.amqp1.specs.Events.{number_asked, numbered_event, part_asked, part_event, part_flags, role_flag, settled_event};
 
 use amqp_endpoints::LinkEvent;
-use amqp_links::{Life, LinkEnd, LinkFault, PartEnd, PartError, ReceivedPart};
+use amqp_links::{Life, LinkEnd, LinkFault, Part, PartEnd, PartError, ReceivedPart};
 use amqp_types::Role;
 
 /// What a record is to the links of its session. The layout is that of C, in 48 bytes without padding. A field of which nothing is said is 0.
@@ -21,7 +22,8 @@ pub struct Event {
     pub kind: u32,
     /// This side's handle of the link. 4294967295 where it is of none, as where deliveries are settled.
     pub link: u32,
-    /// Of a part, the number of the delivery; of what is settled, the first one.
+    /// Of a part, the number of the delivery; so of what is passed over, and of a fault, where a flag says that its transfer names one; of what is settled,
+    /// the first one.
     pub first: u32,
     /// The same; of what is settled, the last one.
     pub last: u32,
@@ -30,7 +32,7 @@ pub struct Event {
     /// The credit of the link, after the event.
     pub credit: u32,
     /// 1 the first part of a delivery, 2 its last one, 4 it is aborted, 8 it is settled so far, 16 `given` says what was given, 32 the Detach is for good,
-    /// 64 the deliveries that are settled have come, 128 the peer has settled them.
+    /// 64 the deliveries that are settled have come, 128 the peer has settled them, 256 a transfer that is passed over, or at fault, names its delivery.
     pub flags: u32,
 }
 
@@ -165,6 +167,21 @@ fn part_event(session: u32, link: u32, told: ReceivedPart, credit: u32) -> Event
     }
 }
 
+/// An event of a transfer that names its delivery by this number, or names none.
+fn numbered_event(number: Option<u32>, event: Event) -> Event
+    ensures { result ≡ numbered_event number event }
+{
+    match number {
+        Some(number) => Event {
+            first: number,
+            last: number,
+            flags: 256,
+            ..event
+        },
+        None => event,
+    }
+}
+
 /// Deliveries are settled. They are of no link, so there is no credit.
 fn settled_event(session: u32, role: Role, first: u32, last: u32, by_peer: bool) -> Event
     ensures { result ≡ settled_event session role first last by_peer }
@@ -188,10 +205,17 @@ pub(crate) fn event_of(session: u32, event: LinkEvent, credit: u32) -> Event
         }
         LinkEvent::Flow { handle, used } => plain_event(session, 2, handle, used, credit),
         LinkEvent::Part { handle, part } => part_event(session, handle, part, credit),
-        LinkEvent::PassedOver { handle } => plain_event(session, 4, handle, 0, credit),
-        LinkEvent::Fault { handle, fault } => {
-            plain_event(session, 5, handle, fault_number(fault), credit)
+        LinkEvent::PassedOver { handle, number } => {
+            numbered_event(number, plain_event(session, 4, handle, 0, credit))
         }
+        LinkEvent::Fault {
+            handle,
+            fault,
+            number,
+        } => numbered_event(
+            number,
+            plain_event(session, 5, handle, fault_number(fault), credit),
+        ),
         LinkEvent::Settled {
             role,
             first,
@@ -218,8 +242,12 @@ pub(crate) fn link_of(event: &LinkEvent) -> u32
         LinkEvent::Attached { handle, life: _ }
         | LinkEvent::Flow { handle, used: _ }
         | LinkEvent::Part { handle, part: _ }
-        | LinkEvent::PassedOver { handle }
-        | LinkEvent::Fault { handle, fault: _ }
+        | LinkEvent::PassedOver { handle, number: _ }
+        | LinkEvent::Fault {
+            handle,
+            fault: _,
+            number: _,
+        }
         | LinkEvent::Due { handle }
         | LinkEvent::Ended {
             handle,
@@ -236,22 +264,65 @@ pub(crate) fn link_of(event: &LinkEvent) -> u32
     }
 }
 
-/// What a link may owe for an event in numbers. A part asks for what an Attach asks for: that credit is renewed.
+/// The number of the delivery that a transfer names which is passed over, or at fault.
+fn number_asked(event: &Event) -> Option<u32>
+    ensures { result ≡ number_asked event.now }
+{
+    if event.flags / 256 % 2 == 1 {
+        Some(event.first)
+    } else {
+        None
+    }
+}
+
+/// What a part is: of its delivery the number alone counts, and what was given with it.
+fn part_asked(event: &Event) -> ReceivedPart
+    ensures { result ≡ part_asked event.now }
+{
+    ReceivedPart {
+        part: Part {
+            number: event.first,
+            is_first: false,
+            end: PartEnd::Last,
+            settled: true,
+            size: 0,
+        },
+        settled: if event.flags / 16 % 2 == 1 {
+            Some(event.given)
+        } else {
+            None
+        },
+    }
+}
+
+/// What a link may owe for an event in numbers.
 pub(crate) fn event_asked(event: &Event) -> LinkEvent
     ensures { result ≡ event_asked event.now }
 {
     let handle = event.link;
     match event.kind {
-        1 | 3 => LinkEvent::Attached {
+        1 => LinkEvent::Attached {
             handle,
             life: Life::Attached,
+        },
+        3 => LinkEvent::Part {
+            handle,
+            part: part_asked(event),
+        },
+        4 => LinkEvent::PassedOver {
+            handle,
+            number: number_asked(event),
         },
         2 => LinkEvent::Flow {
             handle,
             used: event.detail,
         },
         5 => match fault_at(event.detail) {
-            Some(fault) => LinkEvent::Fault { handle, fault },
+            Some(fault) => LinkEvent::Fault {
+                handle,
+                fault,
+                number: number_asked(event),
+            },
             None => LinkEvent::Nothing,
         },
         7 => LinkEvent::Ended {

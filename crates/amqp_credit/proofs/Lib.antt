@@ -4,6 +4,6 @@ mod ReceiverLemmas
 mod GrantLemmas
 mod AssemblyLemmas
 mod PartLemmas
-mod PairLemmas
-mod PairCalls
+pub mod PairLemmas
+pub mod PairCalls
 mod PairLawLemmas

@@ -1,6 +1,8 @@
 -- Whatever is called on an endpoint, its links go on by calls of a session's links.
 use Rattle.std.proofs.Common.{ℕ, ◌^◌, ◌<◌, ◌≡◌, ◌-◌, inl, inr, not, nat_eq, nat_le, Bool, true, false, List, [], ◌∷◌, ◌++◌, Option, Some, None, Result, Ok, Err, refl, ap}
+use Rattle.amqp_types.specs.declared.performatives.Performative.TheVariants as performative
 use Rattle.amqp_types.specs.Attach.{AttachModel}
+use Rattle.amqp_types.specs.Detach.{DetachModel}
 use Rattle.amqp_types.specs.Error.{ErrorModel}
 use Rattle.amqp_types.specs.declared.definitions.Role.{Role}
 use Rattle.amqp_types.specs.declared.definitions.Role.TheVariants as role
@@ -25,12 +27,11 @@ use Rattle.amqp_links.specs.declared.receiving.TransferError.TheVariants as erro
 use Rattle.amqp_links.specs.Ends.{end_at}
 use Rattle.amqp_links.specs.PreparingFlow.{PreparesFlow, SaysAt}
 use Rattle.amqp_links.specs.Session.{LinksView}
-use Rattle.amqp_links.specs.SessionHistory.{LinksCall, LinksLeadTo, LinksStep}
+use Rattle.amqp_links.specs.SessionHistory.{LinksCall, LinksStep}
 use Rattle.amqp_links.specs.SessionHistory as call
 use Rattle.amqp_links.specs.declared.receiving.LinkFault.{LinkFault}
 use Rattle.amqp_links.specs.declared.session.RemoveError.{RemoveError}
 use Rattle.amqp_links.specs.declared.session.sending.SentPart.{SentPart}
-use Rattle.amqp_links.specs.SendingParts.{SendsAt}
 use Rattle.amqp_links.specs.Settling.{left_at}
 use Rattle.amqp_links.proofs.HalvesLemmas.{halves_say}
 use Rattle.amqp_unsettled.specs.declared.entry.Entry.{Entry}
@@ -47,14 +48,18 @@ use Rattle.amqp_endpoints.specs.declared.event.LinkEvent.TheVariants as event
 use Rattle.amqp_endpoints.specs.declared.event.RecordError.{RecordError}
 use Rattle.amqp_endpoints.specs.declared.event.RecordError.TheVariants as no
 use Rattle.amqp_endpoints.specs.declared.late.LateLink.{LateLink}
-use Rattle.amqp_endpoints.specs.Attaching.{AddsLink, AsksAttach, AttachesBy, AttachesUnder, FindsHandle, end_by_role, handle_named}
+use Rattle.amqp_endpoints.specs.Attaching.{AddsLink, AsksAttach, AttachesBy, AttachesUnder, FindsHandle, RequestsAttach, end_by_role, handle_named}
 use Rattle.amqp_endpoints.specs.Endpoint.{EndpointView, RemovesUnless, SettlesNext, Stands, new_endpoint}
-use Rattle.amqp_endpoints.specs.Flowing.{AsksDetach, AsksEnd, AsksFlow, DetachesFor, DetachesIf, EndsFor, EndsIfOwed, FinishesIf, Pays, Responds, SaysFlow, SaysPrepared, awaits, is_done}
+use Rattle.amqp_endpoints.specs.Fitting.{fits_frame}
+use Rattle.amqp_endpoints.specs.Flowing.{AsksDetach, AsksEnd, AsksFlow, Detaches, DetachesFor, DetachesIf, DetachesUnless, EndsFor, EndsIfOwed, FinishesIf, Pays}
+use Rattle.amqp_endpoints.specs.Flowing.{RequestsDetach, SaysFlow, SaysPrepared, awaits, detach_of, fault_error, is_attaching, is_done}
+use Rattle.amqp_endpoints.specs.Forgetting.{EndsIf, RenewsIf}
 use Rattle.amqp_endpoints.specs.History.{EndpointCall, EndpointStep, HaveHistories, IsTold}
 use Rattle.amqp_endpoints.specs.History as history
 use Rattle.amqp_endpoints.specs.Places.{place_at}
 use Rattle.amqp_endpoints.specs.Reading.{credit_flow, first_attach, part_head, peer_attach}
-use Rattle.amqp_endpoints.specs.Sending.{SendsPart, is_first_of, part_of}
+use Rattle.amqp_endpoints.specs.Responding.{Responds}
+use Rattle.amqp_endpoints.specs.Sending.{SendsPart, is_first_of, lets_go, part_of}
 use Rattle.amqp_endpoints.specs.Settling.{IsLeft, LeavesBy, LeavesUnless, lacks_memory}
 use Rattle.amqp_endpoints.specs.Telling.{Choose, KeepsTag, OnRecord, OwesIf, TakesBy, TellsAny, TellsAttach, TellsDetach, TellsFlow, TellsLink, TellsOk, TellsPart, is_unanswered, keeps_tag, link_by, without_input}
 use Rattle.amqp_endpoints.specs.Waiting.{AsksUnless, DueIf, HoldsBack, IsAsked, ListsUnless, TakesDue, held_back, is_held_back}
@@ -84,8 +89,8 @@ attach_goes v w r h a (Ok (event.Attached k life)) small s = one v.links w.links
 attach_goes v w r h a (Ok event.Nothing) small s = still v w s.1
 attach_goes v w r h a (Ok (event.Flow k used)) small s = absurd s
 attach_goes v w r h a (Ok (event.Part k told)) small s = absurd s
-attach_goes v w r h a (Ok (event.PassedOver k)) small s = absurd s
-attach_goes v w r h a (Ok (event.Fault k f)) small s = absurd s
+attach_goes v w r h a (Ok (event.PassedOver k n)) small s = absurd s
+attach_goes v w r h a (Ok (event.Fault k f n)) small s = absurd s
 attach_goes v w r h a (Ok (event.Settled role first last by_peer)) small s = absurd s
 attach_goes v w r h a (Ok (event.Ended k end closed)) small s = absurd s
 attach_goes v w r h a (Ok (event.Due k)) small s = absurd s
@@ -94,11 +99,11 @@ attach_goes v w r h a (Err no.OutOfMemory) small s = still v w s.0
 
 flow_goes : (v w : EndpointView) (r : Record) (h : ℕ) (e : LinkEvent) → TellsFlow v r h e w → GoesOn v.links w.links
 flow_goes v w r h (event.Flow k used) s = one v.links w.links (call.Flows h (credit_flow r) (Some (Ok used))) s.1.0
-flow_goes v w r h (event.Fault k f) s = one v.links w.links (call.Flows h (credit_flow r) (Some (Err f))) s.1.0
+flow_goes v w r h (event.Fault k f n) s = one v.links w.links (call.Flows h (credit_flow r) (Some (Err f))) s.2.0
 flow_goes v w r h event.Nothing s = one v.links w.links (call.Flows h (credit_flow r) None) s.0
 flow_goes v w r h (event.Attached k life) s = absurd s
 flow_goes v w r h (event.Part k told) s = absurd s
-flow_goes v w r h (event.PassedOver k) s = absurd s
+flow_goes v w r h (event.PassedOver k n) s = absurd s
 flow_goes v w r h (event.Settled role first last by_peer) s = absurd s
 flow_goes v w r h (event.Ended k end closed) s = absurd s
 flow_goes v w r h (event.Due k) s = absurd s
@@ -111,10 +116,10 @@ part_goes : (v w : EndpointView) (r : Record) (h given : ℕ) (result : Result L
     → GoesOn v.links w.links
 part_goes v w r h given (Ok (event.Part k told)) small s = one v.links w.links (call.Takes h (part_head (place_at v.places h) r) given (Ok told))
     (small, keeps (keeps_tag told.part) v w r h (TakesBy v r h given (Ok told)) s.1)
-part_goes v w r h given (Ok (event.PassedOver k)) small s =
-    one v.links w.links (call.Takes h (part_head (place_at v.places h) r) given (Err (take.Link error.NotAttached))) (tt, s.1.0)
-part_goes v w r h given (Ok (event.Fault k f)) small s =
-    one v.links w.links (call.Takes h (part_head (place_at v.places h) r) given (Err (take.Link (error.Fault f)))) (tt, s.1.0)
+part_goes v w r h given (Ok (event.PassedOver k n)) small s =
+    one v.links w.links (call.Takes h (part_head (place_at v.places h) r) given (Err (take.Link error.NotAttached))) (tt, s.2.0)
+part_goes v w r h given (Ok (event.Fault k f n)) small s =
+    one v.links w.links (call.Takes h (part_head (place_at v.places h) r) given (Err (take.Link (error.Fault f)))) (tt, s.2.0)
 part_goes v w r h given (Ok event.Nothing) small s =
     one v.links w.links (call.Takes h (part_head (place_at v.places h) r) given (Err take.NoReceiver)) (tt, s.0)
 part_goes v w r h given (Err no.NotNext) small s =
@@ -138,8 +143,8 @@ detach_goes v w r h event.Nothing s = one v.links w.links (call.Ends h None) s.0
 detach_goes v w r h (event.Attached k life) s = absurd s
 detach_goes v w r h (event.Flow k used) s = absurd s
 detach_goes v w r h (event.Part k told) s = absurd s
-detach_goes v w r h (event.PassedOver k) s = absurd s
-detach_goes v w r h (event.Fault k f) s = absurd s
+detach_goes v w r h (event.PassedOver k n) s = absurd s
+detach_goes v w r h (event.Fault k f n) s = absurd s
 detach_goes v w r h (event.Settled role first last by_peer) s = absurd s
 detach_goes v w r h (event.Due k) s = absurd s
 
@@ -187,14 +192,20 @@ adds_goes role.Sender a renewal v w h small s =
     one v.links w.links (call.AddsSender h (number_or 0 a.initial_delivery_count) (Ok tt)) (small, s.0)
 adds_goes role.Receiver a renewal v w h small s = one v.links w.links (call.AddsReceiver h renewal a.max_message_size (Ok tt)) s.0
 
+requests_goes : {R : Type 0} (fits : Bool) (g : Relays R) (v w : EndpointView) (s s' : StreamView R) (said : AttachModel) (a : AttachModel)
+    (renewal : Option Renewal) (h : OutputHandle) (result : Result OutputHandle AttachError) → number_or 0 a.initial_delivery_count < 2 ^ 32
+    → RequestsAttach fits g v s said h (end_by_role a.role a renewal) result s' w → GoesOn v.links w.links
+requests_goes true g v w s s' said a renewal h (Ok handle) small x = adds_goes a.role a renewal v w h.0 small x.2
+requests_goes true g v w s s' said a renewal h (Err (unattached.Asked answer)) small x = still v w x.2
+requests_goes true g v w s s' said a renewal h (Err unattached.NoLink) small x = absurd x
+requests_goes true g v w s s' said a renewal h (Err unattached.InUse) small x = absurd x
+requests_goes true g v w s s' said a renewal h (Err unattached.OutOfMemory) small x = absurd x
+requests_goes false g v w s s' said a renewal h result small x = still v w x.2
+
 asks_goes : {R : Type 0} (g : Relays R) (v w : EndpointView) (s s' : StreamView R) (said : AttachModel) (a : AttachModel) (renewal : Option Renewal)
     (h : OutputHandle) (result : Result OutputHandle AttachError) → number_or 0 a.initial_delivery_count < 2 ^ 32
     → AsksAttach g v s said h (end_by_role a.role a renewal) result s' w → GoesOn v.links w.links
-asks_goes g v w s s' said a renewal h (Ok handle) small x = adds_goes a.role a renewal v w h.0 small x.2
-asks_goes g v w s s' said a renewal h (Err (unattached.Asked answer)) small x = still v w x.2
-asks_goes g v w s s' said a renewal h (Err unattached.NoLink) small x = absurd x
-asks_goes g v w s s' said a renewal h (Err unattached.InUse) small x = absurd x
-asks_goes g v w s s' said a renewal h (Err unattached.OutOfMemory) small x = absurd x
+asks_goes g v w s s' said a renewal h result small x = requests_goes (fits_frame s (performative.Attach said)) g v w s s' said a renewal h result small x
 
 attaches_by : {R : Type 0} (g : Relays R) (v w : EndpointView) (s s' : StreamView R) (a : AttachModel) (renewal : Option Renewal)
     (found result : Result OutputHandle AttachError) → number_or 0 a.initial_delivery_count < 2 ^ 32 → AttachesBy found g v s a renewal result s' w
@@ -271,15 +282,35 @@ detached_goes : (b : Bool) (v w : EndpointView) (h : ℕ) → DetachesIf b h v w
 detached_goes true v w h x = one v.links w.links (call.Detaches h x.0) x.1.0
 detached_goes false v w h x = still v w x
 
+request_goes : {R : Type 0} (fits : Bool) (g : Relays R) (v w : EndpointView) (s s' : StreamView R) (h : ℕ) (d : DetachModel) (waits : Bool) (a : Asked)
+    → RequestsDetach fits g v s h d waits a s' w → GoesOn v.links w.links
+request_goes true g v w s s' h d waits a x = detached_goes (is_done a) v w h x.1
+request_goes false g v w s s' h d waits a x = still v w x.2
+
+asks_detach_goes : {R : Type 0} (g : Relays R) (v w : EndpointView) (s s' : StreamView R) (h : ℕ) (closed : Bool) (e : Option ErrorModel) (waits : Bool) (a : Asked)
+    → AsksDetach g v s h closed e waits a s' w → GoesOn v.links w.links
+asks_detach_goes g v w s s' h closed e waits a x =
+    request_goes (fits_frame s (performative.Detach (detach_of h closed e))) g v w s s' h (detach_of h closed e) waits a x
+
 detaches_by : {R : Type 0} (g : Relays R) (o : Option Bool) (v w : EndpointView) (s s' : StreamView R) (h : ℕ) (closed : Bool) (e : Option ErrorModel)
     (answer : LinkAnswer) → DetachesFor o g v s h closed e answer s' w → GoesOn v.links w.links
 detaches_by g None v w s s' h closed e answer x = still v w x.2
 detaches_by g (Some waits) v w s s' h closed e answer x =
-    unless_goes (is_held_back v s h) (λ a s' w. AsksDetach g v s h closed e waits a s' w) v w s s' h answer (λ a y. detached_goes (is_done a) v w h y.1) x
+    unless_goes (is_held_back v s h) (λ a s' w. AsksDetach g v s h closed e waits a s' w) v w s s' h answer
+    (λ a y. asks_detach_goes g v w s s' h closed e waits a y) x
+
+detaches_unless : {R : Type 0} (b : Bool) (g : Relays R) (v w : EndpointView) (s s' : StreamView R) (h : ℕ) (closed : Bool) (e : Option ErrorModel)
+    (answer : LinkAnswer) → DetachesUnless b g v s h closed e answer s' w → GoesOn v.links w.links
+detaches_unless true g v w s s' h closed e answer x = still v w x.2
+detaches_unless false g v w s s' h closed e answer x = detaches_by g (awaits v h) v w s s' h closed e answer x
+
+detaches_goes : {R : Type 0} (g : Relays R) (v w : EndpointView) (s s' : StreamView R) (h : ℕ) (closed : Bool) (e : Option ErrorModel) (answer : LinkAnswer)
+    → Detaches g v s h closed e answer s' w → GoesOn v.links w.links
+detaches_goes g v w s s' h closed e answer x = detaches_unless (is_attaching (end_at v.links.ends h)) g v w s s' h closed e answer x
 
 asks_end_goes : {R : Type 0} (g : Relays R) (v w : EndpointView) (s s' : StreamView R) (h : ℕ) (f : LinkFault) (waits : Bool) (a : Asked)
     → AsksEnd g v s h f waits a s' w → GoesOn v.links w.links
-asks_end_goes g v w s s' h f waits a (inl x) = detached_goes (is_done a) v w h x.1
+asks_end_goes g v w s s' h f waits a (inl x) = asks_detach_goes g v w s s' h true (Some (fault_error f)) waits a x
 asks_end_goes g v w s s' h f waits a (inr x) = still v w x.2
 
 ends_by : {R : Type 0} (g : Relays R) (o : Option Bool) (v w : EndpointView) (s s' : StreamView R) (h : ℕ) (f : LinkFault) (answer : LinkAnswer)
@@ -294,20 +325,31 @@ ends_goes g v w s s' h f answer x = ends_by g (awaits v h) v w s s' h f answer x
 
 pays_goes : {R : Type 0} (g : Relays R) (owes : Bool) (v w : EndpointView) (s s' : StreamView R) (h available : ℕ) (answer : LinkAnswer)
     → Pays owes g v s h available answer s' w → GoesOn v.links w.links
-pays_goes g true v w s s' h available answer x = detaches_by g (awaits v h) v w s s' h (place_at v.places h).closes None answer x
+pays_goes g true v w s s' h available answer x = detaches_goes g v w s s' h (place_at v.places h).closes None answer x
 pays_goes g false v w s s' h available answer x = says_goes g v w s s' h (wish.Answer available) answer x
+
+-- what the session lets go changes no link
+renews_goes : {R : Type 0} (done : Bool) (g : Relays R) (v w : EndpointView) (s s' : StreamView R) (h : ℕ) (answer : LinkAnswer)
+    → RenewsIf done g v s h answer s' w → GoesOn v.links w.links
+renews_goes true g v w s s' h answer x = says_goes g v w s s' h wish.Renew answer x
+renews_goes false g v w s s' h answer x = still v w x.2
+
+ends_if_goes : {R : Type 0} (done : Bool) (g : Relays R) (v w : EndpointView) (s s' : StreamView R) (h : ℕ) (f : LinkFault) (answer : LinkAnswer)
+    → EndsIf done g v s h f answer s' w → GoesOn v.links w.links
+ends_if_goes true g v w s s' h f answer x = ends_goes g v w s s' h f answer x
+ends_if_goes false g v w s s' h f answer x = still v w x.2
 
 responds_goes : {R : Type 0} (g : Relays R) (v w : EndpointView) (s s' : StreamView R) (e : LinkEvent) (available : ℕ) (answer : LinkAnswer)
     → Responds g v s e available answer s' w → GoesOn v.links w.links
 responds_goes g v w s s' (event.Attached h life) available answer x = says_goes g v w s s' h wish.Renew answer x
-responds_goes g v w s s' (event.Part h told) available answer x = says_goes g v w s s' h wish.Renew answer x
+responds_goes g v w s s' (event.Part h told) available answer x = renews_goes x.0 g v w x.1 s' h answer x.3
 responds_goes g v w s s' (event.Flow h used) available answer x = says_goes g v w s s' h (wish.Answer available) answer x
-responds_goes g v w s s' (event.Fault h f) available answer x = ends_goes g v w s s' h f answer x
-responds_goes g v w s s' (event.Ended h end closed) available answer x = detaches_by g (awaits v h) v w s s' h closed None answer x
+responds_goes g v w s s' (event.Fault h f n) available answer x = ends_if_goes x.0 g v w x.1 s' h f answer x.3
+responds_goes g v w s s' (event.Ended h end closed) available answer x = detaches_goes g v w s s' h closed None answer x
 responds_goes g v w s s' (event.Due h) available answer x = pays_goes g (place_at v.places h).owes v w s s' h available answer x
 responds_goes g v w s s' (event.Settled role first last by_peer) available answer x = still v w x.1
 responds_goes g v w s s' event.Nothing available answer x = still v w x.2
-responds_goes g v w s s' (event.PassedOver h) available answer x = still v w x.2
+responds_goes g v w s s' (event.PassedOver h n) available answer x = still v w x.1
 
 -- what is due changes no link
 due_goes : (b : Bool) (l : LateLink) (ls : List LateLink) (v w : EndpointView) (e : LinkEvent) → DueIf b l ls v e w → GoesOn v.links w.links
@@ -320,14 +362,14 @@ dues_go (l ∷ ls) v w s e x = due_goes (nat_le (held_back v s) (v.sent - l.sent
 
 -- ---- transfers
 
-sends_goes : {R : Type 0} (g : Relays R) (v w : EndpointView) (s s' : StreamView R) (head : TransferHead) (bytes : List ℕ) (p : SentPart) (first : Bool)
-    (result : Result SentDelivery SendFailure) → p.number < 2 ^ 32 → SendsPart g v s head bytes p first result s' w → GoesOn v.links w.links
-sends_goes g v w s s' head bytes p first (Ok told) small x =
+sends_goes : {R : Type 0} (lets : Bool) (g : Relays R) (v w : EndpointView) (s s' : StreamView R) (head : TransferHead) (bytes : List ℕ) (p : SentPart) (first : Bool)
+    (result : Result SentDelivery SendFailure) → p.number < 2 ^ 32 → SendsPart lets g v s head bytes p first result s' w → GoesOn v.links w.links
+sends_goes lets g v w s s' head bytes p first (Ok told) small x =
     one v.links w.links (call.Sends head.link p (Ok told.settled))
     (small, x.2.0)
-sends_goes g v w s s' head bytes p first (Err (failed.Link e)) small x = still v w x.2
-sends_goes g v w s s' head bytes p first (Err (failed.Refused why)) small x = still v w x.1
-sends_goes g v w s s' head bytes p first (Err (failed.Stopped why)) small x = still v w x.1
+sends_goes lets g v w s s' head bytes p first (Err (failed.Link e)) small x = still v w x.2
+sends_goes lets g v w s s' head bytes p first (Err (failed.Refused why)) small x = still v w x.1
+sends_goes lets g v w s s' head bytes p first (Err (failed.Stopped why)) small x = still v w x.1
 
 -- ---- what is settled, and left
 
@@ -360,10 +402,12 @@ step_goes g v w (history.Wanted r h result) x = attach_goes v w r h (first_attac
 step_goes g v w (history.Attaches a renewal result) x = attached_goes g a.name v w x.0 x.1 a renewal result x.2 x.3
 step_goes g v w (history.AttachesNamed name a renewal result) x = attached_goes g name v w x.0 x.1 a renewal result x.2 x.3
 step_goes g v w (history.Says h wished answer) x = says_goes g v w x.0 x.1 h wished answer x.2
-step_goes g v w (history.Detaches h closed e answer) x = detaches_by g (awaits v h) v w x.0 x.1 h closed e answer x.2
+step_goes g v w (history.Detaches h closed e answer) x = detaches_goes g v w x.0 x.1 h closed e answer x.2
 step_goes g v w (history.Responds e available answer) x = responds_goes g v w x.0 x.1 e available answer x.2
-step_goes g v w (history.Sends head bytes given result) x = sends_goes g v w x.0 x.1 head bytes
-    (part_of v x.0 head given (is_first_of (end_at v.links.ends head.link))) (is_first_of (end_at v.links.ends head.link)) result x.2 x.3
+step_goes g v w (history.Sends head bytes given result) x =
+    let first = is_first_of (end_at v.links.ends head.link) in
+    let p = part_of v x.0 head given first in
+    sends_goes (lets_go v p first) g v w x.0 x.1 head bytes p first result x.2 x.3
 step_goes g v w (history.Settles r first last given) x = settles_goes v w r first last given x
 step_goes g v w (history.TellsDue e) x = dues_go v.late v w x.0 e x.1
 step_goes g v w (history.Leaves h result) x = leaves_by g (left_at (end_at v.links.ends h) v.links h) v w x.0 x.1 h result x.2

@@ -1,8 +1,9 @@
 -- Part: other calls.
 -- A link is attached (AMQP 1.0 part 2, sections 2.6.3 and 2.7.3).
-use Rattle.std.specs.Prelude.{ℕ, ◌≡◌, ◌≢◌, nat_eq, List, Option, Some, None, Result, Ok, Err}
+use Rattle.std.specs.Prelude.{ℕ, ◌≡◌, ◌≢◌, nat_eq, Bool, true, false, List, Option, Some, None, Result, Ok, Err}
 use Rattle.std.specs.Map.{lookup}
 use Rattle.amqp_memory.specs.Refusal.{SomeRefused}
+use Rattle.amqp_types.specs.declared.performatives.Performative.TheVariants as performative
 use Rattle.amqp_types.specs.Attach.{AttachModel}
 use Rattle.amqp_types.specs.declared.definitions.Role.{Role}
 use Rattle.amqp_types.specs.declared.definitions.Role.TheVariants.{Sender, Receiver}
@@ -27,6 +28,7 @@ use Rattle.amqp_endpoints.specs.declared.endpoint.attaching.NewEnd.{NewEnd}
 use Rattle.amqp_endpoints.specs.declared.endpoint.attaching.NewEnd.TheVariants.{Sending, Receiving}
 use Rattle.amqp_endpoints.specs.Endpoint.{EndpointView, HasRoom, Stands}
 use Rattle.amqp_endpoints.specs.declared.place.LinkPlace.{LinkPlace}
+use Rattle.amqp_endpoints.specs.Fitting.{fits_frame}
 use Rattle.amqp_endpoints.specs.Places.{no_place, place_at}
 use Rattle.amqp_endpoints.specs.Telling.{OnPlace}
 
@@ -63,14 +65,19 @@ fresh_place v h = record no_place { is_listed = (place_at v.places h).is_listed 
 abbrev pub AddsLink : EndpointView → ℕ → NewEnd → EndpointView → Type 0
 AddsLink v h e w = OnPlace (λ l m. AddsEnd l h (end_by e) (Ok tt) m) h (fresh_place v h) v w
 
--- It is requested; and the link has its end where that is done, and none else.
+-- It is requested; and the link has its end where that is done, and none else. One that does not fit a frame is not requested.
+abbrev pub RequestsAttach : {R : Type 0} → Bool → Relays R → EndpointView → StreamView R → AttachModel → OutputHandle → NewEnd
+    → Result OutputHandle AttachError → StreamView R → EndpointView → Type 0
+RequestsAttach true g v s a h e (Ok handle) s' w =
+    (handle ≡ h) × AsksStream g s (input.Attach v.session a) asked.Done s' × AddsLink v h.0 e w
+RequestsAttach true g v s a h e (Err (no.Asked answer)) s' w =
+    (answer ≢ asked.Done) × AsksStream g s (input.Attach v.session a) answer s' × (w ≡ v)
+RequestsAttach true g v s a h e result s' w = ⊥
+RequestsAttach false g v s a h e result s' w = (result ≡ Err (no.Asked asked.TooLarge)) × (s' ≡ s) × (w ≡ v)
+
 abbrev pub AsksAttach : {R : Type 0} → Relays R → EndpointView → StreamView R → AttachModel → OutputHandle → NewEnd
     → Result OutputHandle AttachError → StreamView R → EndpointView → Type 0
-AsksAttach g v s a h e (Ok handle) s' w =
-    (handle ≡ h) × AsksStream g s (input.Attach v.session a) asked.Done s' × AddsLink v h.0 e w
-AsksAttach g v s a h e (Err (no.Asked answer)) s' w =
-    (answer ≢ asked.Done) × AsksStream g s (input.Attach v.session a) answer s' × (w ≡ v)
-AsksAttach g v s a h e result s' w = ⊥
+AsksAttach g v s a h e result s' w = RequestsAttach (fits_frame s (performative.Attach a)) g v s a h e result s' w
 
 -- The name has a handle, which has no end; and there is room for one.
 abbrev pub FindsHandle : Option OutputHandle → EndpointView → Result OutputHandle AttachError → EndpointView → Type 0

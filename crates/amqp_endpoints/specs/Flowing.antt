@@ -2,6 +2,7 @@
 -- What this side says of its links: flows, and Detaches (AMQP 1.0 part 2, sections 2.6.3 to 2.6.7 and 2.7.4).
 use Rattle.std.specs.Prelude.{ℕ, ◌≡◌, ◌⊎◌, Bool, true, false, Option, Some, None}
 use Rattle.amqp_memory.specs.Refusal.{SomeRefused}
+use Rattle.amqp_types.specs.declared.performatives.Performative.TheVariants as performative
 use Rattle.amqp_types.specs.Detach.{DetachModel}
 use Rattle.amqp_types.specs.Error.{ErrorModel}
 use Rattle.amqp_types.specs.declared.definitions.Role.{Role}
@@ -15,7 +16,7 @@ use Rattle.amqp_driver.specs.StreamTaking.{error_of}
 use Rattle.amqp_driver.specs.StreamTicking.{AsksStream}
 use Rattle.amqp_links.specs.declared.end.End.{End}
 use Rattle.amqp_links.specs.declared.life.Life.{Life}
-use Rattle.amqp_links.specs.declared.life.Life.TheVariants.{Detaching, Detached}
+use Rattle.amqp_links.specs.declared.life.Life.TheVariants.{Attaching, Detaching, Detached}
 use Rattle.amqp_links.specs.declared.receiving.LinkFault.{LinkFault}
 use Rattle.amqp_links.specs.declared.session.granting.FlowWish.{FlowWish}
 use Rattle.amqp_links.specs.declared.session.granting.FlowWish.TheVariants as wish
@@ -27,11 +28,10 @@ use Rattle.amqp_links.specs.PreparingFlow.{PreparesFlow, FinishesFlow}
 use Rattle.amqp_links.specs.Receiving.{condition_of}
 use Rattle.amqp_links.specs.Session.{life_of}
 use Rattle.amqp_endpoints.specs.declared.event.LinkAnswer.{LinkAnswer}
-use Rattle.amqp_endpoints.specs.declared.event.LinkAnswer.TheVariants.{NotWanted}
-use Rattle.amqp_endpoints.specs.declared.event.LinkEvent.{LinkEvent}
-use Rattle.amqp_endpoints.specs.declared.event.LinkEvent.TheVariants as event
+use Rattle.amqp_endpoints.specs.declared.event.LinkAnswer.TheVariants.{HeldBack, NotWanted}
 use Rattle.amqp_endpoints.specs.declared.place.LinkPlace.{LinkPlace}
 use Rattle.amqp_endpoints.specs.Endpoint.{EndpointView, OnLinks}
+use Rattle.amqp_endpoints.specs.Fitting.{fits_frame}
 use Rattle.amqp_endpoints.specs.Places.{place_at}
 use Rattle.amqp_endpoints.specs.Telling.{OnPlace}
 use Rattle.amqp_endpoints.specs.Waiting.{AsksUnless, IsAsked, SendsNone, is_held_back}
@@ -102,10 +102,14 @@ abbrev pub DetachesIf : Bool → ℕ → EndpointView → EndpointView → Type 
 DetachesIf true h v w = (life : Option Life) × OnPlace (λ l m. DetachesAt (end_at l.ends h) l h life m) h (paid v h) v w
 DetachesIf false h v w = w ≡ v
 
--- It is requested; and the link is detached where that is done, and else stands as before.
+-- It is requested; and the link is detached where that is done, and else stands as before. One that does not fit a frame is not requested.
+abbrev pub RequestsDetach : {R : Type 0} → Bool → Relays R → EndpointView → StreamView R → ℕ → DetachModel → Bool → Asked → StreamView R → EndpointView → Type 0
+RequestsDetach true g v s h d waits a s' w = AsksStream g s (input.Detach v.session d waits) a s' × DetachesIf (is_done a) h v w
+RequestsDetach false g v s h d waits a s' w = (a ≡ asked.TooLarge) × (s' ≡ s) × (w ≡ v)
+
 abbrev pub AsksDetach : {R : Type 0} → Relays R → EndpointView → StreamView R → ℕ → Bool → Option ErrorModel → Bool → Asked → StreamView R → EndpointView → Type 0
 AsksDetach g v s h closed error waits a s' w =
-    AsksStream g s (input.Detach v.session (detach_of h closed error) waits) a s' × DetachesIf (is_done a) h v w
+    RequestsDetach (fits_frame s (performative.Detach (detach_of h closed error))) g v s h (detach_of h closed error) waits a s' w
 
 abbrev pub DetachesFor : {R : Type 0} → Option Bool → Relays R → EndpointView → StreamView R → ℕ → Bool → Option ErrorModel → LinkAnswer → StreamView R
     → EndpointView → Type 0
@@ -113,9 +117,23 @@ DetachesFor None g v s h closed error answer s' w = SendsNone v s answer s' w
 DetachesFor (Some waits) g v s h closed error answer s' w =
     AsksUnless (is_held_back v s h) (λ a s' w. AsksDetach g v s h closed error waits a s' w) v s h answer s' w
 
--- It waits where transfers of the link do.
+-- the peer's Attach is still to come
+abbrev pub is_new : Life → Bool
+is_new Attaching = true
+is_new life = false
+
+abbrev pub is_attaching : Option End → Bool
+is_attaching None = false
+is_attaching (Some e) = is_new (life_of e)
+
+abbrev pub DetachesUnless : {R : Type 0} → Bool → Relays R → EndpointView → StreamView R → ℕ → Bool → Option ErrorModel → LinkAnswer → StreamView R → EndpointView
+    → Type 0
+DetachesUnless true g v s h closed error answer s' w = (answer ≡ HeldBack) × (s' ≡ s) × (w ≡ v)
+DetachesUnless false g v s h closed error answer s' w = DetachesFor (awaits v h) g v s h closed error answer s' w
+
+-- It waits where transfers of the link do, and until the peer's Attach has come.
 abbrev pub Detaches : {R : Type 0} → Relays R → EndpointView → StreamView R → ℕ → Bool → Option ErrorModel → LinkAnswer → StreamView R → EndpointView → Type 0
-Detaches g v s h closed error answer s' w = DetachesFor (awaits v h) g v s h closed error answer s' w
+Detaches g v s h closed error answer s' w = DetachesUnless (is_attaching (end_at v.links.ends h)) g v s h closed error answer s' w
 
 -- ---- what an event asks for
 
@@ -145,15 +163,3 @@ Pays false g v s h available answer s' w = SaysFlow g v s h (wish.Answer availab
 abbrev pub Releases : {R : Type 0} → Bool → Relays R → EndpointView → StreamView R → Role → ℕ → ℕ → LinkAnswer → StreamView R → Type 0
 Releases true g v s role first last answer s' = (answer ≡ NotWanted) × (s' ≡ s)
 Releases false g v s role first last answer s' = IsAsked (λ a s' w. AsksStream g s (input.Settle v.session role first (Some last)) a s') answer s' v
-
--- A link that is attached, or has told a part, renews its credit; a flow is answered where the peer asks for it; a fault ends the link; and a Detach of the
--- peer's is answered, where this side has sent none; what is due is paid; and what is settled is let go. Any other event asks for nothing.
-abbrev pub Responds : {R : Type 0} → Relays R → EndpointView → StreamView R → LinkEvent → ℕ → LinkAnswer → StreamView R → EndpointView → Type 0
-Responds g v s (event.Attached h life) available answer s' w = SaysFlow g v s h wish.Renew answer s' w
-Responds g v s (event.Part h told) available answer s' w = SaysFlow g v s h wish.Renew answer s' w
-Responds g v s (event.Flow h used) available answer s' w = SaysFlow g v s h (wish.Answer available) answer s' w
-Responds g v s (event.Fault h f) available answer s' w = EndsFor g v s h f answer s' w
-Responds g v s (event.Ended h end closed) available answer s' w = Detaches g v s h closed None answer s' w
-Responds g v s (event.Due h) available answer s' w = Pays (place_at v.places h).owes g v s h available answer s' w
-Responds g v s (event.Settled role first last by_peer) available answer s' w = Releases by_peer g v s role first last answer s' × (w ≡ v)
-Responds g v s e available answer s' w = SendsNone v s answer s' w

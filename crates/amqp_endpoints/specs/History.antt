@@ -28,6 +28,7 @@ use Rattle.amqp_endpoints.specs.declared.event.RecordError.{RecordError}
 use Rattle.amqp_endpoints.specs.Attaching.{AttachesLink, AttachesUnder}
 use Rattle.amqp_endpoints.specs.Endpoint.{EndpointView, LeavesReceived, LeavesSent, Removes, SettlesNext, new_endpoint}
 use Rattle.amqp_endpoints.specs.Flowing as flowing
+use Rattle.amqp_endpoints.specs.Responding as responding
 use Rattle.amqp_endpoints.specs.Reading.{first_attach}
 use Rattle.amqp_endpoints.specs.Settling.{LeavesNext}
 use Rattle.amqp_endpoints.specs.Sending.{SendsDelivery, is_first_of, number_of}
@@ -71,7 +72,7 @@ EndpointStep g v (AttachesNamed name a renewal result) w = (s : StreamView _) ×
     × (number_or 0 a.initial_delivery_count < 2 ^ 32) × AttachesUnder g name v s a renewal result s' w
 EndpointStep g v (Says h wish answer) w = (s : StreamView _) × (s' : StreamView _) × flowing.SaysFlow g v s h wish answer s' w
 EndpointStep g v (Detaches h closed error answer) w = (s : StreamView _) × (s' : StreamView _) × flowing.Detaches g v s h closed error answer s' w
-EndpointStep g v (Responds e available answer) w = (s : StreamView _) × (s' : StreamView _) × flowing.Responds g v s e available answer s' w
+EndpointStep g v (Responds e available answer) w = (s : StreamView _) × (s' : StreamView _) × responding.Responds g v s e available answer s' w
 EndpointStep {R} g v (TellsDue e) w = (s : StreamView R) × TakesDue v.late v s e w
 EndpointStep g v (Sends head bytes given result) w = (s : StreamView _) × (s' : StreamView _)
     × IsNumbered v s head × SendsDelivery g v s head bytes given result s' w

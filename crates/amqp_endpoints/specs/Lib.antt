@@ -3,8 +3,11 @@ pub mod Reading
 pub mod Endpoint
 pub mod Telling
 pub mod Waiting
-pub mod Flowing
-pub mod Sending
+pub mod Fitting
 pub mod Settling
+pub mod Flowing
+pub mod Forgetting
+pub mod Responding
+pub mod Sending
 pub mod Attaching
 pub mod History

@@ -1,6 +1,6 @@
 -- Part: other calls.
 -- Deliveries of a session are settled by this side (AMQP 1.0 part 2, sections 2.6.12 and 2.7.6).
-use Rattle.std.specs.Prelude.{ℕ, ◌≡◌, Bool, true, false, List, Option, Some, None, Result, Ok, Err}
+use Rattle.std.specs.Prelude.{ℕ, ◌≡◌, Bool, true, false, not, List, Option, Some, None, Result, Ok, Err}
 use Rattle.amqp_types.specs.declared.definitions.Role.{Role}
 use Rattle.amqp_types.specs.declared.definitions.Role.TheVariants.{Sender, Receiver}
 use Rattle.amqp_types.specs.Disposition.{DispositionModel}
@@ -54,6 +54,10 @@ role_at (Some (Receiving s)) = Receiver
 abbrev pub lacks_memory : Asked → Bool
 lacks_memory asked.NoMemory = true
 lacks_memory a = false
+
+-- the session lets one delivery go, and memory was there for it, or not
+abbrev pub LetsOneGo : {R : Type 0} → Relays R → EndpointView → StreamView R → Role → ℕ → Bool → StreamView R → Type 0
+LetsOneGo g v s role n done s' = (a : Asked) × AsksStream g s (input.Settle v.session role n (Some n)) a s' × (done ≡ not (lacks_memory a))
 
 -- the oldest one is taken out
 abbrev pub IsLeft : Result (Option Entry) NoMemory → EndpointView → ℕ → EndpointView → Type 0

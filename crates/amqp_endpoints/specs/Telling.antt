@@ -28,7 +28,7 @@ use Rattle.amqp_endpoints.specs.declared.event.RecordError.TheVariants as no
 use Rattle.amqp_endpoints.specs.declared.place.LinkPlace.{LinkPlace}
 use Rattle.amqp_endpoints.specs.Endpoint.{EndpointView, OnLinks}
 use Rattle.amqp_endpoints.specs.Places.{PutsPlace, place_at}
-use Rattle.amqp_endpoints.specs.Reading.{credit_flow, part_head, peer_attach, settled_range}
+use Rattle.amqp_endpoints.specs.Reading.{credit_flow, if_set, part_head, peer_attach, settled_range}
 
 -- the links step, and the place of this handle is changed; nothing else is
 abbrev pub OnPlace : (LinksView → LinksView → Type 0) → ℕ → LinkPlace → EndpointView → EndpointView → Type 0
@@ -64,7 +64,7 @@ TellsAttach v r h a result w = ⊥
 abbrev pub TellsFlow : EndpointView → Record → ℕ → LinkEvent → EndpointView → Type 0
 TellsFlow v r h (Flow k used) w = (k ≡ h)
     × OnLinks (λ l m. FlowsAt (end_at l.ends h) l h (credit_flow r) (Some (Ok used)) m) v w
-TellsFlow v r h (Fault k fault) w = (k ≡ h)
+TellsFlow v r h (Fault k fault n) w = (k ≡ h) × (n ≡ None)
     × OnPlace (λ l m. FlowsAt (end_at l.ends h) l h (credit_flow r) (Some (Err fault)) m) h (owing v h true) v w
 TellsFlow v r h Nothing w = OnLinks (λ l m. FlowsAt (end_at l.ends h) l h (credit_flow r) None m) v w
 TellsFlow v r h e w = ⊥
@@ -93,8 +93,8 @@ KeepsTag false v r h Step w = OnLinks Step v w
 
 abbrev pub TellsPart : EndpointView → Record → ℕ → ℕ → Result LinkEvent RecordError → EndpointView → Type 0
 TellsPart v r h given (Ok (Part k told)) w = (k ≡ h) × KeepsTag (keeps_tag told.part) v r h (TakesBy v r h given (Ok told)) w
-TellsPart v r h given (Ok (PassedOver k)) w = (k ≡ h) × OnLinks (TakesBy v r h given (Err (take.Link error.NotAttached))) v w
-TellsPart v r h given (Ok (Fault k fault)) w = (k ≡ h)
+TellsPart v r h given (Ok (PassedOver k n)) w = (k ≡ h) × (n ≡ if_set r 1 r.first) × OnLinks (TakesBy v r h given (Err (take.Link error.NotAttached))) v w
+TellsPart v r h given (Ok (Fault k fault n)) w = (k ≡ h) × (n ≡ if_set r 1 r.first)
     × OnPlace (TakesBy v r h given (Err (take.Link (error.Fault fault)))) h (owing v h true) v w
 TellsPart v r h given (Ok Nothing) w = OnLinks (TakesBy v r h given (Err take.NoReceiver)) v w
 TellsPart v r h given (Err no.NotNext) w = OnLinks (TakesBy v r h given (Err take.NotNext)) v w

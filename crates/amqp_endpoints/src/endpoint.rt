@@ -6,6 +6,7 @@ ghost use Rattle.amqp_endpoints.specs.Endpoint.{LeavesReceived, LeavesSent, HasR
 
 mod attaching;
 mod flowing;
+mod responding;
 mod sending;
 mod settling;
 mod telling;

@@ -25,7 +25,8 @@ pub enum LinkEvent {
         /// How many of the credit were used up.
         used: u32,
     },
-    /// A part of a delivery has come on the link of this handle. Its bytes stand in the input, where the record says.
+    /// A part of a delivery has come on the link of this handle. Its bytes stand in the input, where the record says. Of one that settles or aborts its delivery
+    /// [`SessionEndpoint::respond`](crate::SessionEndpoint::respond) has the session let that go.
     Part {
         /// This side's handle of the link.
         handle: u32,
@@ -36,6 +37,8 @@ pub enum LinkEvent {
     PassedOver {
         /// This side's handle of the link.
         handle: u32,
+        /// The number of its delivery, where it says one: [`SessionEndpoint::respond`](crate::SessionEndpoint::respond) has the session let that go.
+        number: Option<u32>,
     },
     /// The peer did what it may not do. This side ends the link of this handle for it, and tells no delivery of it any more.
     Fault {
@@ -43,6 +46,8 @@ pub enum LinkEvent {
         handle: u32,
         /// What it did.
         fault: LinkFault,
+        /// The number of the delivery of a transfer that is at fault, where it says one: the session lets that go too.
+        number: Option<u32>,
     },
     /// The deliveries of a range of numbers are settled: [`SessionEndpoint::settled_next`](crate::SessionEndpoint::settled_next) gives each of them back.
     Settled {
@@ -80,7 +85,8 @@ pub enum LinkAnswer {
     /// None is wanted, and nothing happens.
     NotWanted,
     /// It would overtake transfers of the link which the session holds back for the peer's window (AMQP 1.0 part 2, section 2.5.6): nothing is sent, and the
-    /// link stands as before. [`SessionEndpoint::due_next`](crate::SessionEndpoint::due_next) tells when the call may be made again.
+    /// link stands as before. [`SessionEndpoint::due_next`](crate::SessionEndpoint::due_next) tells when the call may be made again. Or it is a Detach, and the
+    /// peer's Attach is still to come: [`LinkEvent::Attached`] tells it then.
     HeldBack,
     /// It was requested, and this became of it.
     Asked(Asked),

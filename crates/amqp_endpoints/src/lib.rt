@@ -17,6 +17,7 @@
 
 mod endpoint;
 mod event;
+mod fitting;
 mod flows;
 mod inputs;
 mod late;

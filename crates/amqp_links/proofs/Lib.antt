@@ -5,5 +5,8 @@ mod ReceivingHistoryLemmas
 mod SessionLemmas
 pub mod PreparedLemmas
 pub mod HalvesLemmas
+mod JoinedParts
+mod JoinedLemmas
+mod JoinedLawLemmas
 mod SessionLawLemmas
 mod UnsettledLawLemmas

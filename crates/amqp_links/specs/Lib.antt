@@ -4,6 +4,7 @@ pub mod Receiving
 pub mod SendingHistory
 pub mod ReceivingHistory
 pub mod Ends
+pub mod Joined
 pub mod Session
 pub mod Attaching
 pub mod Granting

@@ -4,6 +4,7 @@ ghost use Rattle.amqp_links.specs.SendingHistory as sending;
 ghost use Rattle.amqp_links.specs.SendingHistory.{OfSendings};
 ghost use Rattle.amqp_links.specs.ReceivingHistory as receiving;
 ghost use Rattle.amqp_links.specs.ReceivingHistory.{OfReceivings};
+ghost use Rattle.amqp_links.specs.Joined.{OfJoined, NoneRefused, ComeInOrder, CreditIsKept, EndsAgree};
 ghost use Rattle.amqp_links.specs.SessionHistory.{OfLinks, EachIsAlone};
 ghost use Rattle.amqp_links.specs.UnsettledHistory.{AreTables};
 ghost use Rattle.amqp_links.specs.Preparing.{CancelRestores, HalvesSend};
@@ -27,6 +28,18 @@ pub fn law_of_receiving()
     ensures told { OfReceivings (λ renewal limit H v. receiving.ToldWhereAttached H) }
     ensures parts { OfReceivings (λ renewal limit H v. receiving.IsAssemblyOf limit H v) }
     ensures credit { OfReceivings (λ renewal limit H v. receiving.IsCreditOf renewal H v) }
+{}
+
+/// Of both ends of a link that both sides have attached, where transfers and flows come in order: each transfer that is sent comes once, in the order in which they
+/// were sent, or is on the way, and the receiver refuses none: its credit is never passed, nor its max-message-size, and each part belongs to its delivery. What the
+/// sender may still begin, with what is on the way, is no more than was granted; and with nothing on the way both have the same count and credit, and a delivery is
+/// under way at both or at none. A receiver that grants less than its credit is is left out: deliveries that are on the way may pass it (AMQP 1.0 part 2, sections
+/// 2.6.7 and 2.6.14).
+pub fn law_of_joined_ends()
+    ensures refused { OfJoined (λ H p. NoneRefused H) }
+    ensures order { OfJoined (λ H p. ComeInOrder H p) }
+    ensures kept { OfJoined (λ H p. CreditIsKept p) }
+    ensures agree { OfJoined (λ H p. EndsAgree p) }
 {}
 
 /// A handle of a session has an end where one was added and not removed since. That end is a sending or a receiving one, as it was added, and it stands as if it

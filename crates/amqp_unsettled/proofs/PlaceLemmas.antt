@@ -1,5 +1,5 @@
 -- What stands at the place where a search ended: the first item that passes a test, or none does.
-use Rattle.std.proofs.Common.{◌≡◌, ℕ, suc, zero, ◌<◌, ◌≤◌, arith, List, [], ◌∷◌, ◌++◌, length, take, drop, map}
+use Rattle.std.proofs.Common.{◌-◌, ◌≡◌, ℕ, suc, zero, ◌<◌, ◌≤◌, arith, List, [], ◌∷◌, ◌++◌, length, take, drop, map}
 use Rattle.std.proofs.Common.{ap, sym, subst, ◌∙◌, refl, add-one, Bool, true, false, true≢false, inl, inr, Option, Some}
 use Rattle.std.proofs.Common.{None, IsSome}
 use Rattle.std.specs.Prelude.{slice_get, is_some}
@@ -9,6 +9,7 @@ use Rattle.amqp_unsettled.specs.Inner.Order.{IsRising, Begins, IsPlaceOf}
 use Rattle.amqp_unsettled.proofs.ListLemmas.{Each, NonePasses, each_map, each_both, each_drop, each_join, none_found}
 use Rattle.amqp_unsettled.proofs.ListLemmas.{found_at}
 use Rattle.amqp_unsettled.proofs.OrderLemmas.{each_before, each_from, each_after_item, within_list}
+use Rattle.amqp_unsettled.proofs.OrderLemmas.{mapped_length, narrow_below}
 
 module _ {X : Type 0} where
   pub item_at : (xs : List X) (c : ℕ) → c < length xs → (x : X) × (slice_get xs c ≡ Some x)
@@ -27,6 +28,49 @@ module _ {X : Type 0} where
   nothing_after (suc c) [] h = refl
   nothing_after zero (x ∷ xs) h = absurd (omega (arith, h))
   nothing_after (suc c) (x ∷ xs) h = nothing_after c xs (omega (arith, h))
+
+  pub some_item : (xs : List X) (c : ℕ) → c < length xs → slice_get xs c ≡ None → ⊥
+  some_item xs c h e =
+      let it = item_at xs c h in
+      let is : Some it.0 ≡ None = sym it.1 ∙ e in
+      grind (arith, is)
+
+  -- where the last item has less than the target, or there is none, the place is the length
+  pub begins_empty : (f : X → ℕ) (target : ℕ) (xs : List X) → slice_get xs (length xs - 1) ≡ None →
+      Begins (map f xs) target (length xs)
+  begins_empty f target [] e = record {
+    within = omega arith;
+    below = λ i h. absurd (omega (arith, h));
+    above = λ i h k. absurd (omega (arith, k));
+  }
+  begins_empty f target (x ∷ xs) e = absurd (some_item (x ∷ xs) (length (x ∷ xs) - 1) (omega arith) e)
+
+  pub begins_past : (f : X → ℕ) (target : ℕ) (xs : List X) (last : X) → IsRising (map f xs) →
+      slice_get xs (length xs - 1) ≡ Some last → f last < target →
+      Begins (map f xs) target (length xs)
+  begins_past f target xs last r end less =
+      let l = mapped_length f xs in
+      let w = within_list f xs (length xs - 1) last end in
+      let below = narrow_below f xs (length xs - 1) target (f last) last r end refl less in
+      record {
+        within = omega (arith, l);
+        below = λ i h. below i (omega (arith, h, w));
+        above = λ i h k. absurd (omega (arith, h, k, l));
+      }
+
+  -- nothing is there, or the first item passes
+  pub place_empty : (p : X → Bool) (xs : List X) → slice_get xs 0 ≡ None → IsPlaceOf p xs None
+  place_empty p [] e = (refl, refl)
+  place_empty p (x ∷ xs) e = absurd (let is : Some x ≡ None = e in grind (arith, is))
+
+  pub place_first : (p : X → Bool) (xs : List X) (x : X) → slice_get xs 0 ≡ Some x → p x ≡ true →
+      IsPlaceOf p xs (Some 0)
+  place_first p [] x e t = absurd (let n : (let n : Option X = None in n) ≡ Some x = e in grind (arith, n))
+  place_first p (y ∷ ys) x e t =
+      let is : Some y ≡ Some x = e in
+      let same : y ≡ x = grind (arith, is) in
+      let u : p y ≡ true = ap p same ∙ t in
+      (omega arith, rw u refl, rw u refl)
 
   pub place_none : (p : X → Bool) (xs : List X) → NonePasses p xs → IsPlaceOf p xs None
   place_none p xs h = none_found p xs h

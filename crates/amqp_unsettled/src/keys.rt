@@ -8,7 +8,7 @@ ghost use Rattle.amqp_unsettled.specs.Inner.Order.{is_key, is_key_of, link_start
 
 use crate::key::Key;
 use crate::order::Ordered;
-use crate::search::place;
+use crate::search::{is_past_all, place};
 use crate::serial::HALF;
 use crate::taking::take_out;
 use amqp_blocks::Blocks;
@@ -28,10 +28,11 @@ pub(crate) fn put(keys: &mut Blocks<Key>, base: u32, key: Key)
     requires rising { IsRising (map (key_far base) keys.old.items) }
     ensures { PutInOrder base key keys.old.items keys.new.items }
 {
-    let rank = place(keys, base, key.far(base));
-    if rank == keys.len() {
+    let far = key.far(base);
+    if is_past_all(keys, base, far) {
         keys.push_back(key);
     } else {
+        let rank = place(keys, base, far);
         keys.insert(rank, key);
     }
 }
@@ -44,7 +45,7 @@ pub(crate) fn forget(keys: &mut Blocks<Key>, base: u32, key: Key)
     ensures { keys.new.items ≡ without_first (is_key base key) keys.old.items }
 {
     let rank = place(keys, base, key.far(base));
-    take_out(keys, rank);
+    let _key = take_out(keys, rank);
 }
 
 /// The first key of a link.

@@ -26,8 +26,8 @@
 //! | `remove`, `settle_next` | a search of the numbers; where one goes, a search of the links too, and one taken out |
 //! | `remove_next_of` | two searches of the links and one of the numbers, and one taken out |
 //!
-//! A search of the numbers is constant where none is missing between the oldest and the newest, and else logarithmic in
-//! how many are missing, and in n. A search of the links is constant where there is one and no number is missing, and
+//! A search of the numbers is constant where it ends at the oldest, or where none is missing between the oldest and the
+//! newest, or all that are stand in one stretch; and else logarithmic in how many are missing, and in n. A search of the links is constant where there is one and no number is missing, and
 //! else logarithmic in n. To put one in or take it out moves a block of 256 at most, and takes a step for each block
 //! between it and that of the change before, as `amqp_blocks` does it. No cost grows with how many numbers a range has,
 //! nor with how many links there are.

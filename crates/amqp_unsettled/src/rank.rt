@@ -14,6 +14,13 @@ pub(crate) fn rank_of(entries: &Blocks<Entry>, base: u32, number: u32) -> Option
     requires rising { IsRising (map (entry_far base) entries.now.items) }
     ensures { IsPlaceOf (has_number number) entries.now.items result }
 {
+    let Some(oldest) = entries.first() else {
+        return None;
+    };
+    // Most often it is meant.
+    if oldest.number == number {
+        return Some(0);
+    }
     let rank = place(entries, base, u64::from(distance(base, number)));
     if rank == entries.len() {
         return None;
@@ -45,6 +52,13 @@ pub(crate) fn rank_within(
     requires half { Below (2 ^ 31) (map (entry_far base) entries.now.items) }
     ensures { IsPlaceOf (is_in first last) entries.now.items result }
 {
+    let Some(oldest) = entries.first() else {
+        return None;
+    };
+    // Most often it is meant.
+    if is_within(first, last, oldest.number) {
+        return Some(0);
+    }
     let rank = place(entries, base, u64::from(start_of(base, first)));
     if rank == entries.len() {
         return None;

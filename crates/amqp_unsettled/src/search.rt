@@ -1,6 +1,6 @@
 //! Where items of at least so much begin: in the part that can hold the place, by halving.
 
-ghost use Rattle.std.specs.Prelude.{map};
+ghost use Rattle.std.specs.Prelude.{IsTrue, length, map};
 ghost use Rattle.amqp_unsettled.specs.Inner.Order.{IsRising, Begins, HoldsPlace};
 
 use crate::order::Ordered;
@@ -19,11 +19,18 @@ fn part_of<T: Ordered>(items: &Blocks<T>, base: u32, target: u64) -> Part
     requires rising { IsRising (map (T.far_of base) items.now.items) }
     ensures { HoldsPlace (map (T.far_of base) items.now.items) target result.low result.high }
 {
-    let (Some(first), Some(last)) = (items.first(), items.last()) else {
+    let Some(first) = items.first() else {
+        return Part { low: 0, high: 0 };
+    };
+    let begin = first.far(base);
+    if target <= begin {
+        return Part { low: 0, high: 0 };
+    }
+    let Some(last) = items.last() else {
         return Part { low: 0, high: 0 };
     };
     let len = items.len();
-    let high = len.min(target.saturating_sub(first.far(base)) as usize);
+    let high = len.min((target - begin) as usize);
     let end = last.far(base);
     if end < target {
         return Part { low: len, high };
@@ -34,12 +41,44 @@ fn part_of<T: Ordered>(items: &Blocks<T>, base: u32, target: u64) -> Part
     }
 }
 
+/// Whether each item lies less far after the base: then the place is the length. Only the last one is looked at.
+#[inline(always)]
+pub(crate) fn is_past_all<T: Ordered>(items: &Blocks<T>, base: u32, target: u64) -> bool
+    requires rising { IsRising (map (T.far_of base) items.now.items) }
+    ensures { IsTrue result → Begins (map (T.far_of base) items.now.items) target (length items.now.items) }
+{
+    match items.last() {
+        Some(last) => last.far(base) < target,
+        None => true,
+    }
+}
+
+/// A smaller part, by its first item and its last: the place is there where all numbers are missing in one stretch.
+fn by_borders<T: Ordered>(items: &Blocks<T>, base: u32, target: u64, part: Part) -> Part
+    requires rising { IsRising (map (T.far_of base) items.now.items) }
+    requires holds { HoldsPlace (map (T.far_of base) items.now.items) target part.low part.high }
+    ensures { HoldsPlace (map (T.far_of base) items.now.items) target result.low result.high }
+{
+    let (low, high) = (part.low, part.high);
+    if low == high {
+        return part;
+    }
+    // The first item and the last are known already.
+    if low > 0 && items.get(low).far(base) >= target {
+        return Part { low, high: low };
+    }
+    if high < items.len() && items.get(high - 1).far(base) < target {
+        return Part { low: high, high };
+    }
+    part
+}
+
 /// The rank of the first item that lies at least so far after the base; the length, where none does.
 pub(crate) fn place<T: Ordered>(items: &Blocks<T>, base: u32, target: u64) -> usize
     requires rising { IsRising (map (T.far_of base) items.now.items) }
     ensures { Begins (map (T.far_of base) items.now.items) target result }
 {
-    let part = part_of(items, base, target);
+    let part = by_borders(items, base, target, part_of(items, base, target));
     let mut low = part.low;
     let mut high = part.high;
     while low < high {

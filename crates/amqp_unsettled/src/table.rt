@@ -180,9 +180,8 @@ impl Unsettled {
         ensures value { slice_get self.old rank ≡ Some result }
         ensures left { self.new ≡ take rank self.old ++ drop (rank + 1) self.old }
     {
-        let entry = *self.entries.get(rank);
+        let entry = take_out(&mut self.entries, rank);
         keys::forget(&mut self.keys, self.base, Key::of(entry));
-        take_out(&mut self.entries, rank);
         self.let_go();
         entry
     }

@@ -176,7 +176,11 @@ impl Broker {
     /// What the link of an event owes for it: credit is granted elsewhere, and what a receiver asked for is answered behind its messages.
     pub fn respond(&mut self, session: u32, event: LinkEvent) {
         let is_owed = match event {
-            LinkEvent::Fault { .. } | LinkEvent::Ended { .. } | LinkEvent::Settled { .. } => true,
+            LinkEvent::Fault { .. }
+            | LinkEvent::PassedOver { .. }
+            | LinkEvent::Part { .. }
+            | LinkEvent::Ended { .. }
+            | LinkEvent::Settled { .. } => true,
             LinkEvent::Flow { handle, used: _ } => self.place_of(session, handle).is_some(),
             _ => false,
         };

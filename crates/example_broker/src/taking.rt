@@ -76,7 +76,7 @@ impl Broker {
                 last,
                 ..
             } => { self.take_settled(record, role, first, last) }
-            LinkEvent::Fault { handle, fault: _ } => {
+            LinkEvent::Fault { handle, .. } => {
                 self.drop_coming(session, handle);
                 Ok(())
             }

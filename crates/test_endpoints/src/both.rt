@@ -1,17 +1,23 @@
 //! Both ends of a link: credit, deliveries, settlement, and the end.
 
 use crate::same::{holds, same};
-use crate::side::{Side, exchange, is_all_done, is_sent, pair};
+use crate::side::{Side, exchange, is_all_done, is_sent, pair, pass};
 use amqp_driver::flag;
 use amqp_endpoints::{FlowWish, LinkAnswer, LinkEvent, Renewal, SendFailure};
 use amqp_links::{Entry, Life, LinkEnd, PartEnd, SendError, SendPartError};
-use amqp_types::Role;
+use amqp_types::{ReceiverSettleMode, Role};
 use std::alloc::Global;
 use std::test::Fail;
 
 /// A sender of the client's and a receiver of the server's, on one link, with a credit of 2 that is renewed where less than 1 is left.
 pub fn attached(alloc: Global) -> Result<(Side, Side), Fail> {
+    attached_by(alloc, ReceiverSettleMode::First)
+}
+
+/// The same, where the receiver settles by this mode.
+pub fn attached_by(alloc: Global, mode: ReceiverSettleMode) -> Result<(Side, Side), Fail> {
     let (mut client, mut server) = pair(alloc)?;
+    server.mode = mode;
     let _ = client.attach(alloc, "q", Role::Sender, None, None)?;
     exchange(alloc, &mut client, &mut server)?;
     let renewal = Renewal { low: 1, high: 2 };
@@ -221,12 +227,36 @@ fn a_drain_is_answered(rt: HostRuntime) -> Result<(), Fail> {
 }
 
 #[test]
+fn a_later_part_settles_a_delivery(rt: HostRuntime) -> Result<(), Fail> {
+    let (mut client, mut server) = attached(rt.alloc())?;
+    same(&rt, client.send(0, b"tone", flag::MORE), Ok(0));
+    same(
+        &rt,
+        client.send(0, b"ttwo", flag::MORE | flag::SETTLED),
+        Ok(0),
+    );
+    same(&rt, client.open_deliveries(), 0);
+    same(&rt, client.endpoint.links().sent(0), None);
+    same(&rt, client.send(0, b"tthree", flag::SETTLED), Ok(0));
+    holds(&rt, pass(rt.alloc(), &mut client, &mut server));
+    same(&rt, server.count, 3);
+    same(&rt, part(&server), Some((0, true, PartEnd::More, 3)));
+    same(&rt, server.endpoint.left_of_received(), None);
+    same(&rt, server.open_deliveries(), 0);
+    drop(client);
+    drop(server);
+    Ok(())
+}
+
+#[test]
 fn a_delivery_is_aborted(rt: HostRuntime) -> Result<(), Fail> {
     let (mut client, mut server) = attached(rt.alloc())?;
     same(&rt, client.send(0, b"tone", flag::MORE), Ok(0));
     same(&rt, client.endpoint.links().sent(0).is_some(), true);
+    same(&rt, client.open_deliveries(), 1);
     same(&rt, client.send(0, b"ttwo", flag::ABORTED), Ok(0));
     same(&rt, client.endpoint.links().sent(0).is_some(), false);
+    same(&rt, client.open_deliveries(), 0);
     exchange(rt.alloc(), &mut client, &mut server)?;
     same(&rt, part(&server), Some((0, true, PartEnd::More, 3)));
     let last = match server.events[1] {
@@ -235,6 +265,7 @@ fn a_delivery_is_aborted(rt: HostRuntime) -> Result<(), Fail> {
     };
     same(&rt, last, Some((PartEnd::Aborted, Some(7))));
     same(&rt, server.endpoint.left_of_received(), None);
+    same(&rt, server.open_deliveries(), 0);
     drop(client);
     drop(server);
     Ok(())

@@ -24,13 +24,17 @@ fn a_delivery_past_the_limit_ends_the_link(rt: HostRuntime) -> Result<(), Fail> 
     let fault = LinkEvent::Fault {
         handle: 0,
         fault: LinkFault::Part(PartError::TooLarge),
+        number: Some(0),
     };
     same(&rt, server.endpoint.on_record(&record, 0), Ok(fault));
     record.payload = 1;
     same(
         &rt,
         server.endpoint.on_record(&record, 0),
-        Ok(LinkEvent::PassedOver { handle: 0 }),
+        Ok(LinkEvent::PassedOver {
+            handle: 0,
+            number: Some(0),
+        }),
     );
     record.session = 1;
     same(

@@ -6,7 +6,11 @@ mod both;
 #[cfg(test)]
 mod faults;
 #[cfg(test)]
+mod fitting;
+#[cfg(test)]
 mod same;
+#[cfg(test)]
+mod second;
 #[cfg(test)]
 mod side;
 #[cfg(test)]

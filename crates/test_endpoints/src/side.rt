@@ -26,6 +26,8 @@ pub struct Side {
     pub events: [LinkEvent; MOST],
     pub count: usize,
     pub wanted: Option<Record>,
+    /// How the receiving end of its links settles.
+    pub mode: ReceiverSettleMode,
 }
 
 impl Drop for Side {
@@ -36,15 +38,17 @@ impl Drop for Side {
             events: _,
             count: _,
             wanted: _,
+            mode: _,
         } = self;
         drop(stream);
         drop(endpoint);
     }
 }
 
-/// A side that is to open.
-fn new_side(alloc: Global) -> Result<Side, Fail> {
-    let open = Open::new(String::from_str(alloc, "me")?);
+/// A side that is to open, and takes frames of at most so many bytes.
+fn new_side(alloc: Global, largest: u32) -> Result<Side, Fail> {
+    let mut open = Open::new(String::from_str(alloc, "me")?);
+    open.max_frame_size = largest;
     match Stream::new(alloc, 0, None, Opening::plain(alloc), KeyHash::Fixed, open) {
         Ok(stream) => Ok(Side {
             stream,
@@ -52,6 +56,7 @@ fn new_side(alloc: Global) -> Result<Side, Fail> {
             events: [LinkEvent::Nothing; MOST],
             count: 0,
             wanted: None,
+            mode: ReceiverSettleMode::First,
         }),
         Err(_) => Err(Fail::new("no stream")),
     }
@@ -59,13 +64,17 @@ fn new_side(alloc: Global) -> Result<Side, Fail> {
 
 /// Two sides whose session is mapped.
 pub fn pair(alloc: Global) -> Result<(Side, Side), Fail> {
-    pair_by(alloc, SessionSettings::new())
+    pair_by(alloc, SessionSettings::new(), u32::MAX)
 }
 
-/// The same, where the client begins the session by these settings.
-pub fn pair_by(alloc: Global, settings: SessionSettings) -> Result<(Side, Side), Fail> {
-    let mut client = new_side(alloc)?;
-    let mut server = new_side(alloc)?;
+/// The same, where the client begins the session by these settings, and each takes frames of at most so many bytes.
+pub fn pair_by(
+    alloc: Global,
+    settings: SessionSettings,
+    largest: u32,
+) -> Result<(Side, Side), Fail> {
+    let mut client = new_side(alloc, largest)?;
+    let mut server = new_side(alloc, largest)?;
     let _ = is_done(client.stream.request(Input::Open));
     let _ = is_done(server.stream.request(Input::Open));
     exchange(alloc, &mut client, &mut server)?;
@@ -109,9 +118,20 @@ fn sent(stream: &mut Stream<PlainRelay>, alloc: Global) -> Result<Vec<u8>, Alloc
     Ok(all)
 }
 
-/// All that waits on one side comes to the other one, which answers what a record asks for, tells its links, and says what they owe.
+/// What [`pass`] does; a failure where memory was refused.
 pub fn exchange(alloc: Global, from: &mut Side, to: &mut Side) -> Result<(), Fail> {
-    let bytes = sent(&mut from.stream, alloc)?;
+    if pass(alloc, from, to) {
+        Ok(())
+    } else {
+        Err(Fail::new("memory was refused"))
+    }
+}
+
+/// All that waits on one side comes to the other one, which answers what a record asks for, tells its links, and says what they owe. Whether memory was there.
+pub fn pass(alloc: Global, from: &mut Side, to: &mut Side) -> bool {
+    let Ok(bytes) = sent(&mut from.stream, alloc) else {
+        return false;
+    };
     let mut at = 0;
     to.count = 0;
     to.events = [LinkEvent::Nothing; MOST];
@@ -128,7 +148,7 @@ pub fn exchange(alloc: Global, from: &mut Side, to: &mut Side) -> Result<(), Fai
         }
     }
     drop(bytes);
-    Ok(())
+    true
 }
 
 impl Side {
@@ -193,7 +213,7 @@ impl Side {
         renewal: Option<Renewal>,
         limit: Option<u64>,
     ) -> Result<u32, Fail> {
-        let policy = Policy::new(role, ReceiverSettleMode::First);
+        let policy = Policy::new(role, self.mode);
         let relay = PlainRelay::new(policy);
         let name = String::from_str(alloc, name)?;
         let said = name.clone()?;

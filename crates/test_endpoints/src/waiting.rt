@@ -14,7 +14,7 @@ use std::test::Fail;
 fn with_window_of_two(alloc: Global) -> Result<(Side, Side), Fail> {
     let mut settings = SessionSettings::new();
     settings.incoming_window = 2;
-    let (mut client, mut server) = pair_by(alloc, settings)?;
+    let (mut client, mut server) = pair_by(alloc, settings, u32::MAX)?;
     let _ = client.attach(alloc, "q", Role::Receiver, None, None)?;
     exchange(alloc, &mut client, &mut server)?;
     let _ = server.attach(alloc, "q", Role::Sender, None, None)?;

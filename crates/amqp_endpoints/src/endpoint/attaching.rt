@@ -1,10 +1,12 @@
 //! Attaches of a session's links (AMQP 1.0 part 2, section 2.6.3).
 
-ghost use Rattle.std.specs.Prelude.{◌≡◌, ◌<◌, None, length};
+ghost use Rattle.std.specs.Prelude.{◌≡◌, ◌<◌, None, length, true};
 ghost use Rattle.amqp_links.specs.Ends.{end_at};
-ghost use Rattle.amqp_endpoints.specs.Attaching.{AddsLink, AsksAttach, AttachesLink, AttachesUnder, FindsHandle, handle_named, new_end, said_attach};
+ghost use Rattle.amqp_endpoints.specs.Attaching.{AddsLink, AsksAttach, AttachesLink, AttachesUnder, FindsHandle, RequestsAttach};
+ghost use Rattle.amqp_endpoints.specs.Attaching.{handle_named, new_end, said_attach};
 
 use super::SessionEndpoint;
+use crate::fitting::fits;
 use crate::place::LinkPlace;
 use amqp_driver::{Asked, Stream};
 use amqp_engine::Input;
@@ -21,7 +23,7 @@ pub enum AttachError {
     InUse,
     /// Memory was refused for it. Nothing was requested.
     OutOfMemory,
-    /// The Attach was requested, and not done, for this reason.
+    /// The Attach was requested, and not done, for this reason. [`Asked::TooLarge`] where it does not fit the peer's frame: nothing was requested then.
     Asked(Asked),
 }
 
@@ -176,6 +178,25 @@ impl SessionEndpoint {
         requires free { end_at self.old.links.ends handle.0 ≡ None }
         requires room { handle.0 < length self.old.links.ends }
         ensures { AsksAttach R.gives self.old stream.old said handle end result stream.new self.new }
+    {
+        if fits(said.encoded_len(), stream.engine().max_piece_len()) {
+            self.request_attach(stream, said, handle, end)
+        } else {
+            drop(said);
+            Err(AttachError::Asked(Asked::TooLarge))
+        }
+    }
+
+    fn request_attach<R: LinkRelay>(
+        &mut self,
+        stream: &mut Stream<R>,
+        said: Attach,
+        handle: OutputHandle,
+        end: NewEnd,
+    ) -> Result<OutputHandle, AttachError>
+        requires free { end_at self.old.links.ends handle.0 ≡ None }
+        requires room { handle.0 < length self.old.links.ends }
+        ensures { RequestsAttach true R.gives self.old stream.old said handle end result stream.new self.new }
     {
         match stream.request(Input::Attach(self.session, said)) {
             Asked::Done => {

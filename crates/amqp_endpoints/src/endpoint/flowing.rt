@@ -1,20 +1,20 @@
 //! What this side says of its links: flows, and Detaches.
 
-ghost use Rattle.std.specs.Prelude.{◌≡◌, Some};
+ghost use Rattle.std.specs.Prelude.{◌≡◌, Some, true};
 ghost use Rattle.amqp_links.specs.Session.{life_of};
-ghost use Rattle.amqp_links.specs.declared.session.granting.FlowWish.TheVariants.{Renew};
-ghost use Rattle.amqp_endpoints.specs.Flowing.{AsksDetach, AsksEnd, AsksFlow, Detaches, DetachesFor, EndsFor, Pays, Releases, Responds, SaysFlow, SaysPrepared, awaits, is_done, waits_for};
-ghost use Rattle.amqp_endpoints.specs.Places.{place_at};
+ghost use Rattle.amqp_endpoints.specs.Flowing.{AsksDetach, AsksFlow, Detaches, DetachesFor, RequestsDetach};
+ghost use Rattle.amqp_endpoints.specs.Flowing.{SaysFlow, SaysPrepared, awaits, is_attaching, is_done, waits_for};
 
 use super::SessionEndpoint;
-use crate::event::{LinkAnswer, LinkEvent};
-use crate::flows::{detach_of, fault_error, flow_of};
+use crate::event::LinkAnswer;
+use crate::fitting::fits;
+use crate::flows::{detach_of, flow_of};
 use crate::place::LinkPlace;
 use amqp_driver::{Asked, Stream};
 use amqp_engine::Input;
-use amqp_links::{End, FlowWish, Life, LinkFault, PreparedFlow};
+use amqp_links::{End, FlowWish, Life, PreparedFlow};
 use amqp_session::LinkRelay;
-use amqp_types::{Error, Role};
+use amqp_types::{Detach, Error};
 
 /// Whether a request was done.
 pub(super) fn is_done(asked: &Asked) -> bool
@@ -33,6 +33,16 @@ fn waits_for(end: End, owes: bool) -> Option<bool>
         Life::Detaching => { if owes { Some(true) } else { None } }
         Life::Detached => { if owes { Some(false) } else { None } }
     }
+}
+
+/// Whether the peer's Attach is still to come for the link of this end.
+fn is_attaching(end: Option<End>) -> bool
+    ensures { result ≡ is_attaching end }
+{
+    let Some(end) = end else {
+        return false;
+    };
+    matches!(end.life(), Life::Attaching)
 }
 
 impl SessionEndpoint {
@@ -92,7 +102,9 @@ impl SessionEndpoint {
     /// the link for good (section 2.6.6). [`LinkAnswer::NotWanted`] where no end has the handle, or this side's Detach was sent before.
     ///
     /// The link stands as after it where the answer is [`Asked::Done`]. Of any other answer it stands as before, and the call may be made again. It is
-    /// [`LinkAnswer::HeldBack`] while transfers of the link wait for the peer's window: they would go out under a handle that is detached.
+    /// [`LinkAnswer::HeldBack`] while transfers of the link wait for the peer's window: they would go out under a handle that is detached. So it is while the
+    /// peer's Attach is still to come, which would be answered by nobody: [`LinkEvent::Attached`] tells that it may be made again. It is [`Asked::TooLarge`],
+    /// and nothing is requested, where the error does not fit the peer's frame.
     pub fn detach<R: LinkRelay>(
         &mut self,
         stream: &mut Stream<R>,
@@ -101,6 +113,23 @@ impl SessionEndpoint {
         error: Option<Error>,
     ) -> LinkAnswer
         ensures { Detaches R.gives self.old stream.old handle closed error result stream.new self.new }
+    {
+        if is_attaching(self.links.end(handle)) {
+            drop(error);
+            return LinkAnswer::HeldBack;
+        }
+        self.detach_once(stream, handle, closed, error)
+    }
+
+    /// The same of a link whose Attach of the peer's has come.
+    fn detach_once<R: LinkRelay>(
+        &mut self,
+        stream: &mut Stream<R>,
+        handle: u32,
+        closed: bool,
+        error: Option<Error>,
+    ) -> LinkAnswer
+        ensures { DetachesFor (awaits self.old handle) R.gives self.old stream.old handle closed error result stream.new self.new }
     {
         match self.awaits(handle) {
             Some(waits) => self.detach_or_wait(stream, handle, closed, error, waits),
@@ -131,14 +160,14 @@ impl SessionEndpoint {
     }
 
     /// Whether the peer's Detach is to come after this side's, where this side's may be sent.
-    fn awaits(&self, handle: u32) -> Option<bool>
+    pub(super) fn awaits(&self, handle: u32) -> Option<bool>
         ensures { result ≡ awaits self.now handle }
     {
         let end = self.links.end(handle)?;
         waits_for(end, self.places.get(handle).owes)
     }
 
-    fn ask_detach<R: LinkRelay>(
+    pub(super) fn ask_detach<R: LinkRelay>(
         &mut self,
         stream: &mut Stream<R>,
         handle: u32,
@@ -149,6 +178,23 @@ impl SessionEndpoint {
         ensures { AsksDetach R.gives self.old stream.old handle closed error waits result stream.new self.new }
     {
         let detach = detach_of(handle, closed, error);
+        if fits(detach.encoded_len(), stream.engine().max_piece_len()) {
+            self.request_detach(stream, handle, detach, waits)
+        } else {
+            drop(detach);
+            Asked::TooLarge
+        }
+    }
+
+    fn request_detach<R: LinkRelay>(
+        &mut self,
+        stream: &mut Stream<R>,
+        handle: u32,
+        detach: Detach,
+        waits: bool,
+    ) -> Asked
+        ensures { RequestsDetach true R.gives self.old stream.old handle detach waits result stream.new self.new }
+    {
         let asked = stream.request(Input::Detach(self.session, detach, waits));
         if is_done(&asked) {
             drop(self.links.detach(handle));
@@ -162,120 +208,5 @@ impl SessionEndpoint {
             );
         }
         asked
-    }
-
-    /// Sends what a link owes for an event that [`SessionEndpoint::on_record`] told, if it owes anything: a flow, where credit is to be renewed or the peer asked for
-    /// one; or a Detach, in answer to the peer's, or for what the peer may not do, with the condition of [`LinkFault::condition`]. `available` is how many
-    /// messages are ready to be sent on the link. Of what is settled by the relay's answer the session lets its own records go.
-    ///
-    /// Where the answer is [`Asked::NoMemory`] it may be called again. Where it is [`LinkAnswer::HeldBack`] the link still owes it, and
-    /// [`SessionEndpoint::due_next`] tells when it is to be called again, with [`LinkEvent::Due`].
-    pub fn respond<R: LinkRelay>(
-        &mut self,
-        stream: &mut Stream<R>,
-        event: &LinkEvent,
-        available: u32,
-    ) -> LinkAnswer
-        ensures { Responds R.gives self.old stream.old event.now available result stream.new self.new }
-    {
-        match *event {
-            LinkEvent::Attached { handle, life: _ } => self.renew(stream, handle),
-            LinkEvent::Part { handle, part: _ } => self.renew(stream, handle),
-            LinkEvent::Flow { handle, used: _ } => {
-                self.say(stream, handle, FlowWish::Answer(available))
-            }
-            LinkEvent::Fault { handle, fault } => self.end_for(stream, handle, fault),
-            LinkEvent::Ended {
-                handle,
-                end: _,
-                closed,
-            } => self.detach(stream, handle, closed, None),
-            LinkEvent::Due { handle } => self.pay(stream, handle, available),
-            LinkEvent::Settled {
-                role,
-                first,
-                last,
-                by_peer,
-            } => self.release(stream, role, first, last, by_peer),
-            LinkEvent::Nothing | LinkEvent::PassedOver { handle: _ } => LinkAnswer::NotWanted,
-        }
-    }
-
-    /// A link sends what it owes the peer: a Detach, where one is to be sent; else a flow in answer.
-    fn pay<R: LinkRelay>(
-        &mut self,
-        stream: &mut Stream<R>,
-        handle: u32,
-        available: u32,
-    ) -> LinkAnswer
-        ensures { Pays (place_at self.old.places handle).owes R.gives self.old stream.old handle available result stream.new self.new }
-    {
-        let place = self.places.get(handle);
-        if place.owes {
-            self.detach(stream, handle, place.closes, None)
-        } else {
-            self.say(stream, handle, FlowWish::Answer(available))
-        }
-    }
-
-    /// The session lets deliveries go that this side's relay has settled. What the peer has settled is gone.
-    fn release<R: LinkRelay>(
-        &self,
-        stream: &mut Stream<R>,
-        role: Role,
-        first: u32,
-        last: u32,
-        by_peer: bool,
-    ) -> LinkAnswer
-        ensures { Releases by_peer R.gives self.now stream.old role first last result stream.new }
-    {
-        if by_peer {
-            LinkAnswer::NotWanted
-        } else {
-            LinkAnswer::Asked(self.let_go(stream, role, first, last))
-        }
-    }
-
-    /// A flow that renews a link's credit is sent, if one is due. That is looked at first, since mostly none is.
-    #[tactic(auto, using(amqp_links::proofs::DueLemmas::none_prepared))]
-    fn renew<R: LinkRelay>(&mut self, stream: &mut Stream<R>, handle: u32) -> LinkAnswer
-        ensures { SaysFlow R.gives self.old stream.old handle Renew result stream.new self.new }
-    {
-        if self.links.is_renewal_due(handle) {
-            self.say(stream, handle, FlowWish::Renew)
-        } else {
-            LinkAnswer::NotWanted
-        }
-    }
-
-    /// Ends a link for a fault, where this side has not detached it. The text of the error is made then alone.
-    fn end_for<R: LinkRelay>(
-        &mut self,
-        stream: &mut Stream<R>,
-        handle: u32,
-        fault: LinkFault,
-    ) -> LinkAnswer
-        ensures { EndsFor R.gives self.old stream.old handle fault result stream.new self.new }
-    {
-        match self.awaits(handle) {
-            Some(waits) => LinkAnswer::Asked(self.ask_end(stream, handle, fault, waits)),
-            None => LinkAnswer::NotWanted,
-        }
-    }
-
-    /// The Detach that ends a link for a fault is requested, with the condition of the fault.
-    fn ask_end<R: LinkRelay>(
-        &mut self,
-        stream: &mut Stream<R>,
-        handle: u32,
-        fault: LinkFault,
-        waits: bool,
-    ) -> Asked
-        ensures { AsksEnd R.gives self.old stream.old handle fault waits result stream.new self.new }
-    {
-        match fault_error(self.alloc, fault) {
-            Ok(error) => self.ask_detach(stream, handle, true, Some(error), waits),
-            Err(_) => Asked::NoMemory,
-        }
     }
 }

@@ -1,7 +1,8 @@
 //! Transfers that are to be sent on a session's links.
 
 ghost use Rattle.std.specs.Prelude.{◌≡◌};
-ghost use Rattle.amqp_endpoints.specs.Sending.{AsksPart, Finishes, PostsHead, SendsDelivery, end_of, is_first_of, number_of, numbered, one_more, sent_place, whole_head};
+ghost use Rattle.amqp_endpoints.specs.Sending.{AsksPart, Finishes, PostsHead, PostsLast, PostsPart, SendsDelivery};
+ghost use Rattle.amqp_endpoints.specs.Sending.{end_of, is_first_of, lets_go, number_of, numbered, one_more, sent_place, settles_own, whole_head};
 ghost use Rattle.amqp_endpoints.specs.Places.{PutsPlace};
 
 use super::SessionEndpoint;
@@ -10,6 +11,7 @@ use amqp_driver::flag::{self, is_set};
 use amqp_driver::{Sent, Status, Stream, TransferHead};
 use amqp_links::{End, PartEnd, PreparedPart, SendPartError, SentPart};
 use amqp_session::LinkRelay;
+use amqp_types::Role;
 
 /// A transfer that was accepted.
 #[derive(Clone, Copy, Debug, PartialEq, Eq)]
@@ -58,6 +60,13 @@ fn is_first_of(end: Option<End>) -> bool
     }
 }
 
+/// Whether a transfer settles a delivery that an earlier one began: it says so, or it aborts it.
+fn settles_own(part: SentPart, is_first: bool) -> bool
+    ensures { result ≡ settles_own part is_first }
+{
+    !is_first && (part.settled || matches!(part.end, PartEnd::Aborted))
+}
+
 /// These flags, with that of the first transfer of a delivery or without it.
 fn numbered(flags: u16, is_first: bool) -> u16
     ensures { result ≡ numbered flags is_first }
@@ -75,6 +84,7 @@ impl SessionEndpoint {
     /// delivery where none is under way on the link, and takes one of its credit then; else it goes on with that one. The head's session and whether it is the
     /// first transfer are the endpoint's to say: what stands there is passed over. [`Driver::cut`](amqp_driver::Driver::cut) cuts a longer payload. `given` is
     /// kept with a delivery that is unsettled from its first transfer on, and given back with it (AMQP 1.0 part 2, sections 2.6.7, 2.6.12 and 2.6.14).
+    /// Where a later transfer settles or aborts it, the session lets it go first.
     ///
     /// # Errors
     /// Each [`SendFailure`] says when.
@@ -95,10 +105,18 @@ impl SessionEndpoint {
             settled: is_set(head.flags, flag::SETTLED),
             given,
         };
+        let lets_go = self.lets_go(part, is_first);
         match self.links.prepare_send(head.link, part) {
-            Ok(prepared) => self.ask_part(stream, head, bytes, is_first, &prepared),
+            Ok(prepared) => self.ask_part(stream, head, bytes, is_first, lets_go, &prepared),
             Err(error) => Err(SendFailure::Link(error)),
         }
+    }
+
+    /// Whether a transfer settles a delivery that is unsettled.
+    fn lets_go(&self, part: SentPart, is_first: bool) -> bool
+        ensures { result ≡ lets_go self.now part is_first }
+    {
+        settles_own(part, is_first) && self.links.sent(part.number).is_some()
     }
 
     /// The number of the delivery that a transfer on this link begins, or goes on with.
@@ -121,16 +139,54 @@ impl SessionEndpoint {
         head: &TransferHead,
         bytes: &[u8],
         is_first: bool,
+        lets_go: bool,
         prepared: &PreparedPart,
     ) -> Result<SentDelivery, SendFailure>
-        ensures { AsksPart R.gives self.old stream.old head.now bytes.now is_first prepared.now result stream.new self.new }
+        ensures { AsksPart lets_go R.gives self.old stream.old head.now bytes.now is_first prepared.now result stream.new self.new }
     {
-        match self.post(stream, head, bytes, is_first) {
+        let number = prepared.part().number;
+        match self.post_part(stream, head, bytes, is_first, lets_go, number) {
             Ok(()) => Ok(self.finish(head.link, prepared)),
             Err(failure) => {
                 self.links.cancel_send(prepared);
                 Err(failure)
             }
+        }
+    }
+
+    /// The stream is handed the transfer of a delivery that has this number, once the session has let that go, where it is to.
+    fn post_part<R: LinkRelay>(
+        &self,
+        stream: &mut Stream<R>,
+        head: &TransferHead,
+        bytes: &[u8],
+        is_first: bool,
+        lets_go: bool,
+        number: u32,
+    ) -> Result<(), SendFailure>
+        ensures { PostsPart lets_go R.gives self.now stream.old head.now bytes.now is_first number result stream.new }
+    {
+        if lets_go {
+            self.post_last(stream, head, bytes, number)
+        } else {
+            self.post(stream, head, bytes, is_first)
+        }
+    }
+
+    /// The session lets the delivery go, and the stream is handed the transfer that settles it.
+    fn post_last<R: LinkRelay>(
+        &self,
+        stream: &mut Stream<R>,
+        head: &TransferHead,
+        bytes: &[u8],
+        number: u32,
+    ) -> Result<(), SendFailure>
+        ensures { PostsLast R.gives self.now stream.old head.now bytes.now number result stream.new }
+    {
+        if self.let_one_go(stream, Role::Sender, number) {
+            self.post(stream, head, bytes, false)
+        } else {
+            Err(SendFailure::Stopped(Status::NoMemory))
         }
     }
 

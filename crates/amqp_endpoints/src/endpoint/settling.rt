@@ -4,7 +4,7 @@ ghost use Rattle.std.specs.Prelude.{◌≡◌, Some};
 ghost use Rattle.amqp_engine.specs.declared.engine.input.Input.TheVariants as input;
 ghost use Rattle.amqp_driver.specs.StreamTicking.{AsksStream};
 ghost use Rattle.amqp_driver.specs.Settling.{state_of};
-ghost use Rattle.amqp_endpoints.specs.Settling.{LeavesNext, LetsGo, SettlesAs, SettlesBy, lacks_memory, role_at};
+ghost use Rattle.amqp_endpoints.specs.Settling.{LeavesNext, LetsGo, LetsOneGo, SettlesAs, SettlesBy, lacks_memory, role_at};
 ghost use Rattle.amqp_driver.specs.Record.{number_or};
 
 use super::SessionEndpoint;
@@ -142,5 +142,18 @@ impl SessionEndpoint {
         ensures { AsksStream R.gives stream.old (input.Settle self.now.session role first (Some last)) result stream.new }
     {
         stream.request(Input::Settle(self.session, role, first, Some(last)))
+    }
+
+    /// The session lets the delivery of this number go. Whether memory was there for it.
+    pub(super) fn let_one_go<R: LinkRelay>(
+        &self,
+        stream: &mut Stream<R>,
+        role: Role,
+        number: u32,
+    ) -> bool
+        ensures { LetsOneGo R.gives self.now stream.old role number result stream.new }
+    {
+        let asked = self.let_go(stream, role, number, number);
+        !lacks_memory(&asked)
     }
 }

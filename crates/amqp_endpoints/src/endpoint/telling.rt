@@ -134,7 +134,11 @@ impl SessionEndpoint {
             Some(Ok(used)) => LinkEvent::Flow { handle, used },
             Some(Err(fault)) => {
                 self.owe(handle, true);
-                LinkEvent::Fault { handle, fault }
+                LinkEvent::Fault {
+                    handle,
+                    fault,
+                    number: None,
+                }
             }
         }
     }
@@ -149,10 +153,9 @@ impl SessionEndpoint {
         ensures { TellsPart self.old told.now handle given result self.new }
     {
         let place = self.places.get(handle);
-        match self
-            .links
-            .on_transfer(handle, part_head(&place, told), given)
-        {
+        let head = part_head(&place, told);
+        let number = head.number;
+        match self.links.on_transfer(handle, head, given) {
             Ok(part) => {
                 if keeps_tag(part.part) {
                     self.places.put(
@@ -168,11 +171,15 @@ impl SessionEndpoint {
             }
             Err(TakePartError::NoReceiver) => Ok(LinkEvent::Nothing),
             Err(TakePartError::Link(TransferError::NotAttached)) => {
-                Ok(LinkEvent::PassedOver { handle })
+                Ok(LinkEvent::PassedOver { handle, number })
             }
             Err(TakePartError::Link(TransferError::Fault(fault))) => {
                 self.owe(handle, true);
-                Ok(LinkEvent::Fault { handle, fault })
+                Ok(LinkEvent::Fault {
+                    handle,
+                    fault,
+                    number,
+                })
             }
             Err(TakePartError::NotNext) => Err(RecordError::NotNext),
             Err(TakePartError::OutOfMemory) => Err(RecordError::OutOfMemory),

@@ -4,7 +4,7 @@ use Rattle.amqp_links.specs.declared.session.sending.SentPart.{SentPart}
 use Rattle.amqp_links.specs.Ends.{end_at}
 use Rattle.amqp_links.specs.Preparing.{PreparesAt}
 use Rattle.amqp_endpoints.specs.Endpoint.{EndpointView}
-use Rattle.amqp_endpoints.specs.Sending.{AsksPart, SendsPart, end_of, is_first_of, number_of, part_of}
+use Rattle.amqp_endpoints.specs.Sending.{AsksPart, SendsAs, end_of, is_first_of, lets_go, number_of, part_of}
 use Rattle.amqp_endpoints.proofs.SendingLemmas.{parts_same, sends_part}
 use Rattle.amqp_endpoints.proofs.endpoint.SessionEndpoint.send.Goals as goal
 
@@ -31,11 +31,14 @@ returns-in-Ok g c =
     let prepares : PreparesAt (end_at v.links.ends head.link) v.links head.link p (Ok q) m =
     subst (λ y. PreparesAt (end_at v.links.ends head.link) v.links head.link y (Ok q) m) same
     (subst (λ (x : EndpointView). PreparesAt (end_at x.links.ends head.link) x.links head.link asked (Ok q) m) c.self.view_is c.in-Ok.ensures) in
-    let asks : AsksPart g.R.LinkRelay.gives (record v { links = m }) c.args.stream.now head c.args.bytes.now begins q c.ask_part.result
+    let lets : c.lets_go-lets_go.result ≡ lets_go v p begins = c.lets_go-lets_go.ensures ∙ ap (λ (y : SentPart). lets_go v y begins) same in
+    let asks : AsksPart (lets_go v p begins) g.R.LinkRelay.gives (record v { links = m }) c.args.stream.now head c.args.bytes.now begins q c.ask_part.result
     c.ask_part.new.stream c.ask_part.new.self =
-    subst (λ (x : EndpointView). AsksPart g.R.LinkRelay.gives (record x { links = m }) c.args.stream.now head c.args.bytes.now begins q c.ask_part.result
-    c.ask_part.new.stream c.ask_part.new.self) c.self.view_is c.ask_part.ensures in
-    subst (λ b. SendsPart g.R.LinkRelay.gives v c.args.stream.now head c.args.bytes.now (part_of v c.args.stream.now head c.args.given b) b c.ask_part.result
+    subst (λ b. AsksPart b g.R.LinkRelay.gives (record v { links = m }) c.args.stream.now head c.args.bytes.now begins q c.ask_part.result
+    c.ask_part.new.stream c.ask_part.new.self) lets
+    (subst (λ (x : EndpointView). AsksPart c.lets_go-lets_go.result g.R.LinkRelay.gives (record x { links = m }) c.args.stream.now head c.args.bytes.now begins q
+    c.ask_part.result c.ask_part.new.stream c.ask_part.new.self) c.self.view_is c.ask_part.ensures) in
+    subst (λ b. SendsAs g.R.LinkRelay.gives v c.args.stream.now head c.args.bytes.now (part_of v c.args.stream.now head c.args.given b) b c.ask_part.result
     c.ask_part.new.stream c.ask_part.new.self) first
-    (sends_part g.R.LinkRelay.gives v c.ask_part.new.self m c.args.stream.now c.ask_part.new.stream head c.args.bytes.now p begins q c.ask_part.result
-    (subst (λ n. n < 2 ^ 32) number c.number_of.type_inv) first prepares asks)
+    (sends_part (lets_go v p begins) g.R.LinkRelay.gives v c.ask_part.new.self m c.args.stream.now c.ask_part.new.stream head c.args.bytes.now p begins q
+    c.ask_part.result (subst (λ n. n < 2 ^ 32) number c.number_of.type_inv) first prepares asks)
