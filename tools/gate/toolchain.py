@@ -23,8 +23,9 @@ from shared.command import command
 
 ROOT = Path(__file__).resolve().parents[2]
 # What is used of rt and rtlib, and of each crate that rtlib finds. 'rt help' promises none of it.
-USED = ["Crate.cuts_libraries", "checked", "processors", "rtlib.Crate", "rtlib.PARTS", "rtlib.crates_below", "rtlib.files_of", "rtlib.guarded"]
-OF_A_CRATE = ["below", "build_static", "folder", "is_built", "is_static", "name", "rlib"]
+USED = ["Crate.ci", "Crate.cuts_libraries", "KIT", "Kept.is_whole", "Kept.made", "checked", "main", "processors"]
+USED += [f"rtlib.{it}" for it in ("Crate", "PARTS", "RATTLE", "crates_below", "files_of", "guarded")]
+OF_A_CRATE = ["below", "folder", "is_built", "is_static", "name", "prove", "rlib", "words"]
 CHECKED_TAKES = ["crate", "texts", "flags", "kept"]
 
 

@@ -33,8 +33,8 @@ Written by `tools/gate/wrong_bodies.py --write` from the line `function:` of eac
 
 An edit puts a wrong body in the place of a function's, and its name says what is wrong with it. Those of `src/MODULE.rt` stand in
 `crates/NAME/mutants/MODULE.edits`. `tools/gate/refused_together.py NAME/EDIT` tries one: it passes where a goal of that very function cannot be
-proved. The gate tries those that have a line `gate: yes`: one at least of each function that users can call, and of other functions those that once
-were proved, or that turn what the pages promise. All others have a star here: `tools/gate/refused_together.py all` tries them too.
+proved. The gate tries those that have a line `gate: yes`: one of each function that users can call and whose code has edits, and in C some of what the
+calls stand on. All others have a star here: `tools/gate/refused_together.py all` tries them too.
 
 Most laws have no code to change: an edit of one changes its statement, or a definition, whose file then stands after the edit's name, and shows
 nothing of the code. What the contracts say is in [CLAIMS.md](CLAIMS.md).
