@@ -45,7 +45,8 @@ enum amqp1_status {
     AMQP1_NOT_NEXT = 21,      /* of amqp1_link_event: a delivery's number does not lie after each one that is unsettled, by less than 2^31 */
     AMQP1_NO_LINK = 22,       /* of amqp1_link_attach: no handle is allotted to the name; of amqp1_link_remove: no end has the handle */
     AMQP1_IN_USE = 23,        /* of amqp1_link_attach: the handle has an end already */
-    AMQP1_HELD_BACK = 24      /* of a flow or a Detach of a link: transfers of it wait for the peer's window; amqp1_link_due tells when to ask again */
+    AMQP1_HELD_BACK = 24      /* of a flow or a Detach of a link: transfers of it wait for the peer's window, and amqp1_link_due tells when to ask again;
+                                 or of a Detach the peer's Attach has not come: its record tells when */
 };
 
 /* What a frame was. A record of a kind that is not named here is of a later version: pass over it. */

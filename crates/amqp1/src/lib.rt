@@ -94,8 +94,8 @@
 //! - 17 `NOT_RELEASED` and 18 `NOT_FORGOTTEN`, of an answer to an End, and of `LetGo`: what was before is done, and the channel was not given back; or it was,
 //!   and the session was not let go. `Refusal` says why.
 //! - 19 `NOT_DETACHED` and 20 `UNSETTLED`, of `amqp1_link_remove`; 21 `NOT_NEXT`, of `amqp1_link_event`; 22 `NO_LINK`, of `amqp1_link_attach` and `amqp1_link_remove`; 23 `IN_USE`, of
-//!   `amqp1_link_attach`; 24 `HELD_BACK`, of `amqp1_link_respond`, `amqp1_link_flow` and `amqp1_link_detach`, for which `amqp1_link_due` tells when to ask again:
-//!   `status::Status` says when.
+//!   `amqp1_link_attach`; 24 `HELD_BACK`, of `amqp1_link_respond`, `amqp1_link_flow` and `amqp1_link_detach`: `amqp1_link_due` tells
+//!   when to ask again, and of a Detach before the peer's Attach the record of that Attach. `status::Status` says when each is answered.
 //!
 //! An answer to a Begin is `REFUSED` as `NotOpened`, `ChannelInUse`, `TooLarge`, or by the engine's name, and one to an End, or `LetGo`, as `NotEnded`; it is
 //! `BAD_ARGUMENT` also where the frame is no Begin that answers none. `amqp_driver::BeginAnswer` and `EndAnswer` say what has changed then.

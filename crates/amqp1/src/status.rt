@@ -57,7 +57,8 @@ pub enum Status {
     NoLink,
     /// Of a link that is to be attached: its handle has an end already.
     InUse,
-    /// Of a flow or a Detach of a link: it would overtake transfers that wait for the peer's window. Nothing is sent; ask again once it is due.
+    /// Of a flow or a Detach of a link: it would overtake transfers that wait for the peer's window. Nothing is sent; ask again once it is due. Of a
+    /// Detach also where the peer's Attach has not come: ask again once it has.
     HeldBack,
 }
 
