@@ -8,11 +8,17 @@
 #
 #     tools/build_c.sh OUT              OUT is made if need be
 #     tools/build_c.sh OUT --from FILE  of an archive libamqp1.a that was built before
+#     tools/build_c.sh OUT --cpu NAME   for a newer processor than x86-64-v2: x86-64-v3 has AVX2 and BMI2. The library does not look whether it is there
 set -euo pipefail
 case "${1-}" in -h | --help | "") sed -n '2,/^set/{/^set/d;s/^# \{0,1\}//;p}' "$0" && exit 0 ;; esac
 mkdir -p "$1"
-out=$(cd "$1" && pwd) archive=${3-}
-[ -z "$archive" ] || archive=$(realpath "$archive")
+out=$(cd "$1" && pwd) archive="" cpu=""
+case "${2-}" in
+    "") ;;
+    --from) archive=$(realpath "${3:?}") ;;
+    --cpu) cpu=${3:?} ;;
+    *) echo "build_c: no $2" >&2 && exit 2 ;;
+esac
 cd "$(dirname "$0")/.."
 command -v rt >/dev/null || { echo "build_c: no rt on the path" >&2; exit 1; }
 kit_c=$(dirname "$(rt doc)")/c
@@ -23,7 +29,7 @@ command -v cc >/dev/null && command -v c++ >/dev/null && command -v objcopy >/de
     { echo "build_c: install Debian's gcc, g++, libc6-dev and binutils: $(tail -n 1 "$folder/apt")" >&2; exit 1; }
 
 if [ -z "$archive" ]; then
-    (cd crates/amqp1 && rt lib --jobs 1) >"$folder/log" 2>&1 || { cat "$folder/log" >&2; exit 1; }
+    (cd crates/amqp1 && rt lib --jobs 1 ${cpu:+--cpu "$cpu"}) >"$folder/log" 2>&1 || { cat "$folder/log" >&2; exit 1; }
     grep -E '^(axioms|logic=)' "$folder/log" || true
     archive=$PWD/crates/amqp1/out/libamqp1.a
 fi
@@ -101,7 +107,7 @@ manual() {
 mkdir -p "$out/lib"
 object_of amqp1 amqp1_{new,call,take,answer,heard,tick,send,cut,free,version} \
     amqp1_link_{attach,wanted,event,due,respond,flow,detach,send,settle,dispose,settled,left,left_of,remove,forget,credit}
-cc -std=c99 -O2 -fPIC -ffunction-sections -Wall -Wextra -Wpedantic -Werror -c include/amqp1/library.c -o "$folder/amqp1_header.o"
+cc -std=c99 -O2 -fPIC ${cpu:+-march="$cpu"} -ffunction-sections -Wall -Wextra -Wpedantic -Werror -c include/amqp1/library.c -o "$folder/amqp1_header.o"
 library_of amqp1 libamqp1.so.1 "$folder/amqp1.o" "$folder/amqp1_header.o"
 cmake_of "$(sed -n 's/^#define AMQP1_VERSION "\(.*\)"$/\1/p' include/amqp1.h)"
 manual

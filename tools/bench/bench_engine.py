@@ -9,7 +9,7 @@ rows are counted whose name has one of them. Callgrind counts, as for `tools/ben
 is done once is out, and the slope of the same run by an engine that only drops its inputs is taken off. What is left is
 `Engine::run`, and a look at each answer. qpid-proton's figures come from `bench_proton.py`: counted in the same run where its packages are
 installed, and else stored; they hold its inputs too. A row has one where both do the same: a run, or a push, for as many frames, and
-each received delivery kept until it is settled.
+each received delivery kept until it is settled. Behind it stands how many times the engine's it is, with the inputs in and with the engine's off.
 
 With `--time` it prints nanoseconds of processor time, the least of five runs, and has rows of a million open deliveries too. What takes more
 than two minutes is left out.
@@ -177,8 +177,9 @@ def slope(program, row, lines, more):
 def write_counted(program, row, lines, proton):
     """Prints the cost of a unit: of the engine alone, and of its inputs, with qpid-proton's."""
     whole, made = slope(program, row, lines, row.part), slope(program, row, lines, ["idle"])
-    beside = proton[row.proton] if row.proton else ""
-    print(f"{row.name:46}{whole[0] - made[0]:10.0f}{whole[1] - made[1]:10.2f}{made[0]:10.0f}{made[1]:10.2f}{beside:>10}", flush=True)
+    beside = proton[row.proton] if row.proton else 0
+    said = f"{beside:10}{beside / whole[0]:9.1f}{beside / (whole[0] - made[0]):9.1f}" if beside else ""
+    print(f"{row.name:46}{whole[0] - made[0]:10.0f}{whole[1] - made[1]:10.2f}{made[0]:10.0f}{made[1]:10.2f}{said}", flush=True)
 
 
 def timed(program, row, lines, more):
@@ -208,7 +209,7 @@ def main():
     if is_timed:
         print(f"{'nanoseconds of a transfer, or a delivery':46}{'engine':>10}{'its input':>10}{'proton':>10}")
     else:
-        print(f"{'a transfer, or a delivery':46}{'instr.':>10}{'requests':>10}{'its input':>10}{'requests':>10}{'proton':>10}")
+        print(f"{'a transfer, or a delivery':46}{'instr.':>10}{'requests':>10}{'its input':>10}{'requests':>10}{'proton':>10}{'inputs in':>11}{'off':>7}")
     proton, write = (times(), write_timed) if is_timed else (figures(), write_counted)
     for row in rows_to_time() if is_timed else rows():
         if not words[1:] or any(word in row.name for word in words[1:]):

@@ -36,6 +36,11 @@ def processor():
     return f"{model.group(1) if model else platform.machine()}, {os.cpu_count()} of them"
 
 
+def commit():
+    """The commit that the page is written at."""
+    return subprocess.run(["git", "rev-parse", "--short", "HEAD"], cwd=ROOT, stdout=subprocess.PIPE, text=True, check=True).stdout.strip()
+
+
 def peak(program, *words):
     """The most that the program held, in bytes. It is to hold more than this script does."""
     with open(CRATE / "stdin", "rb") as lines:
@@ -73,7 +78,7 @@ def main():
         sys.exit(__doc__)
     date, program = sys.argv[1:3]
     page = [f"# What the codec and the engine cost, {date}", "",
-            f"Written by `tools/bench/bench_page.py`, of proved programs, with the kit {toolchain.wanted()[0]}, on {processor()}. How the rows are made stands in",
+            f"Written by `tools/bench/bench_page.py` at {commit()}, of proved programs, with the kit {toolchain.wanted()[0]}, on {processor()}. How the rows are made stands in",
             "[SPEED.md](../SPEED.md). Nothing here is a clause, and the gate compares nothing with these figures.", ""]
     for title, text in sections(program, bool(sys.argv[3:])):
         page += [f"## {title}", "", "```text", text, "```", ""]
