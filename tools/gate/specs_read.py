@@ -7,7 +7,7 @@ from pathlib import Path
 ROOT = Path(__file__).resolve().parents[2]
 PART = "-- Part: "
 USE = re.compile(r"^\s*(?:ghost |pub )*use Rattle\.(\w+)\.specs\.([\w.]+?)(?:\.\{(.*?)\}| as (\w+));?\s*$")
-ITEM = re.compile(r"^(?:(?:abbrev|unfoldable|pub(?! mod\b)|mutual|data|record)\b|infix)")
+ITEM = re.compile(r"^(?:(?:abbrev|unfoldable|pub(?! (?:mod|use)\b)|mutual|data|record)\b|infix)")
 NAMED = re.compile(r"^\s*(?:(?:abbrev|unfoldable|pub|mutual|data|record) )*([^\s:({]+)")
 WORD = re.compile(r"[^\s(){}\[\],;]+")
 

@@ -24,3 +24,6 @@ pub mod Taking
 pub mod Told
 pub mod Turn
 pub mod Wanted
+pub use Rattle.amqp_events.specs as amqp_events
+pub use Rattle.amqp_sasl.specs as amqp_sasl
+pub use Rattle.amqp_idle.specs as amqp_idle

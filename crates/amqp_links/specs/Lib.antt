@@ -16,3 +16,6 @@ pub mod TakingParts
 pub mod Settling
 pub mod SessionHistory
 pub mod UnsettledHistory
+pub use Rattle.amqp_memory.specs as amqp_memory
+pub use Rattle.amqp_credit.specs as amqp_credit
+pub use Rattle.amqp_unsettled.specs as amqp_unsettled

@@ -156,7 +156,8 @@ impl SessionLinks {
         self.ends.get(handle)
     }
 
-    /// The handle has no end any more, and may be given to another link: the peer has detached, and nothing is unsettled on the link.
+    /// The handle has no end any more, and may be given to another link: the peer has detached, and nothing is unsettled on the link. The memory by which
+    /// its deliveries were found goes.
     ///
     /// # Errors
     /// Each [`RemoveError`] says when, in this order.
@@ -172,6 +173,8 @@ impl SessionLinks {
         if self.sent.count_of(handle) > 0 || self.received.count_of(handle) > 0 {
             return Err(RemoveError::Unsettled);
         }
+        self.sent.forget_link(handle);
+        self.received.forget_link(handle);
         self.ends.replace(handle, None);
         Ok(())
     }

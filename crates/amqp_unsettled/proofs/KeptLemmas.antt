@@ -1,49 +1,22 @@
--- The entries and their keys: what holds of the ones holds of the others, and what a change of both keeps.
-use Rattle.std.proofs.Common.{◌≡◌, ℕ, suc, ◌^◌, ◌<◌, ◌≤◌, arith, List, ◌++◌, length, take, drop, map, nat_eq}
-use Rattle.std.proofs.Common.{ap, sym, subst, ◌∙◌, refl, cond, Bool, true, false, Option, Some, None}
-use Rattle.std.specs.Prelude.{slice_get, option_map}
+-- The entries and the numbers of each link: what follows of the lists, and what an entry that goes leaves.
+use Rattle.std.proofs.Common.{◌≡◌, ℕ, suc, ◌^◌, ◌<◌, ◌≤◌, arith, List, ◌∷◌, ◌++◌, length, take, drop, map}
+use Rattle.std.proofs.Common.{ap, sym, subst, ◌∙◌, refl, Bool, true, false, true≢false, Option, Some, None, IsSome}
+use Rattle.std.specs.Prelude.{slice_get, option_map, is_some}
 use Rattle.std.specs.List.{filter, find}
+use Rattle.std.proofs.lemmas.List.{take-append-drop}
+use Rattle.amqp_blocks.specs.Chunked.{Sequence}
 use Rattle.amqp_unsettled.specs.declared.entry.Entry.{Entry}
-use Rattle.amqp_unsettled.specs.declared.key.Key.{Key}
 use Rattle.amqp_unsettled.specs.Serial.{distance}
 use Rattle.amqp_unsettled.specs.Table.{has_number, is_of, count_of, without_first}
-use Rattle.amqp_unsettled.specs.Inner.Order.{Below, IsRising, IsKept, entry_far, key_far, number_far, key_of, is_key}
-use Rattle.amqp_unsettled.specs.Inner.Order.{is_key_of}
-use Rattle.amqp_unsettled.proofs.ListLemmas.{Each, NonePasses, each_map, each_filter, each_mapped, each_of_filters}
-use Rattle.amqp_unsettled.proofs.ListLemmas.{not_found, found_at, one_fewer, each_without, find_filtered}
-use Rattle.amqp_unsettled.proofs.ListLemmas.{filter_without}
-use Rattle.amqp_unsettled.proofs.ListLemmas.{find_map, without_map, filter_map_length}
-use Rattle.amqp_unsettled.proofs.OrderLemmas.{below_each, each_below, each_before_item, rising_without}
+use Rattle.amqp_unsettled.specs.Inner.Order.{AsBefore, Loses, Below, IsRising, IsKept, entry_far, is_number}
+use Rattle.amqp_unsettled.specs.Inner.Order.{numbers_of, numbers_in}
+use Rattle.amqp_unsettled.proofs.ListLemmas.{NonePasses, each_map, not_found, found_at, each_without}
+use Rattle.amqp_unsettled.proofs.OrderLemmas.{mapped_length, below_each, each_below, each_before_item, rising_without}
 use Rattle.amqp_unsettled.proofs.OrderLemmas.{few_rising, same_found}
-use Rattle.amqp_unsettled.proofs.KeyLemmas.{equal_test, other_test, same_link}
-
--- what holds of the key of each entry holds of each key
-pub each_key : (P : Key → Type 0) (base : ℕ) (es : List Entry) (ks : List Key) → IsKept base es ks →
-    Each (λ e. P (key_of e)) es → Each P ks
-each_key P base es ks k h =
-    let all = each_mapped key_of P es h in
-    each_of_filters P is_key_of (λ (x : Key). x.link) (λ x. equal_test x.link x.link refl) ks
-    (λ l. subst (Each P) (sym (k.same l)) (each_filter P (is_key_of l) (map key_of es) all))
-
-pub few_kept : (base : ℕ) (es : List Entry) (ks : List Key) → IsKept base es ks → length es ≤ 2 ^ 31
-few_kept base es ks k = few_rising (entry_far base) (2 ^ 31) es k.rising k.half
-
-pub keys_half : (base : ℕ) (es : List Entry) (ks : List Key) → IsKept base es ks →
-    Below (2 ^ 31) (map (number_far base) ks)
-keys_half base es ks k = each_below (number_far base) (2 ^ 31) ks
-    (each_key (λ x. number_far base x < 2 ^ 31) base es ks k (below_each (entry_far base) (2 ^ 31) es k.half))
-
-pub count_kept : (base link : ℕ) (es : List Entry) (ks : List Key) → IsKept base es ks →
-    length (filter (is_key_of link) ks) ≡ count_of link es
-count_kept base link es ks k = ap length (k.same link) ∙ filter_map_length key_of (is_key_of link) es
-
--- ---- the oldest of a link
-
-link_found : (base link : ℕ) (es : List Entry) (ks : List Key) → IsKept base es ks →
-    find (is_key_of link) ks ≡ option_map key_of (find (is_of link) es)
-link_found base link es ks k =
-    sym (find_filtered (is_key_of link) (is_key_of link) (λ x h. h) ks) ∙ ap (find (is_key_of link)) (k.same link)
-    ∙ find_filtered (is_key_of link) (is_key_of link) (λ x h. h) (map key_of es) ∙ find_map key_of (is_key_of link) es
+use Rattle.amqp_unsettled.proofs.PlaceLemmas.{from_item}
+use Rattle.amqp_unsettled.proofs.NumberLemmas.{equal_test, other_test, test_equal}
+use Rattle.amqp_unsettled.proofs.LinkLemmas.{numbers_append, numbers_own, numbers_other, numbers_few, numbers_rising}
+use Rattle.amqp_unsettled.proofs.LinkLemmas.{numbers_first, numbers_none, first_after}
 
 -- an entry's number finds it
 number_finds : (base : ℕ) (p : Entry → Bool) (es : List Entry) (e : Entry) → IsRising (map (entry_far base) es) →
@@ -55,91 +28,132 @@ number_finds base p es e r found =
     (λ is. let same : entry_far base x ≡ entry_far base e = ap (distance base) is in omega (arith, far, same)))
     found
 
-pub link_none : (base link : ℕ) (es : List Entry) (ks : List Key) → IsKept base es ks →
-    find (is_key_of link) ks ≡ None →
-    (find (is_of link) es ≡ None) × (without_first (is_of link) es ≡ es)
-link_none base link es ks k h = let none = by (find (is_of link) es) (sym (link_found base link es ks k) ∙ h) in
-    (none, not_found (is_of link) es none)
-  where
-    by : (o : Option Entry) → option_map key_of o ≡ None → o ≡ None
-    by None e = refl
-    by (Some x) e = absurd (let is : Some (key_of x) ≡ None = e in grind (arith, is))
+module _ (base : ℕ) (es : List Entry) (lists : List (Sequence ℕ)) (k : IsKept base es lists) where
+  pub few_kept : length es ≤ 2 ^ 31
+  few_kept = few_rising (entry_far base) (2 ^ 31) es k.rising k.half
 
-pub link_some : (base link : ℕ) (es : List Entry) (ks : List Key) (x : Key) → IsKept base es ks →
-    find (is_key_of link) ks ≡ Some x →
-    (find (has_number x.number) es ≡ find (is_of link) es)
-    × (without_first (has_number x.number) es ≡ without_first (is_of link) es)
-link_some base link es ks x k h = by (find (is_of link) es) refl (sym (link_found base link es ks k) ∙ h)
-  where
-    by : (o : Option Entry) → find (is_of link) es ≡ o → option_map key_of o ≡ Some x →
-        (find (has_number x.number) es ≡ find (is_of link) es)
-        × (without_first (has_number x.number) es ≡ without_first (is_of link) es)
-    by None t e = absurd (let n : (let n : Option Key = None in n) ≡ Some x = e in grind (arith, n))
-    by (Some y) t e =
-        let is : Some (key_of y) ≡ Some x = e in
-        let same : key_of y ≡ x = grind (arith, is) in
-        let number : y.number ≡ x.number = ap (λ (z : Key). z.number) same in
-        let found = number_finds base (is_of link) es y k.rising t in (
-          subst (λ n. find (has_number n) es ≡ find (is_of link) es) number (found.0 ∙ sym t),
-          subst (λ n. without_first (has_number n) es ≡ without_first (is_of link) es) number found.1,
+  -- ---- the list of a link
+
+  pub list_few : (link : ℕ) → length (numbers_of lists link) ≤ 2 ^ 31
+  list_few link =
+      let same = ap length (k.same link) in
+      let few = numbers_few link es in
+      let all = few_kept in
+      omega (arith, same, few, all)
+
+  pub list_rising : (link : ℕ) → IsRising (map (distance base) (numbers_of lists link))
+  list_rising link = subst (λ ns. IsRising (map (distance base) ns)) (sym (k.same link))
+      (numbers_rising link base es k.rising)
+
+  pub list_counts : (link : ℕ) → length (numbers_of lists link) ≡ count_of link es
+  list_counts link = ap length (k.same link) ∙ mapped_length (λ (e : Entry). e.number) (filter (is_of link) es)
+
+  pub kept_same : (new : List (Sequence ℕ)) → AsBefore lists new → IsKept base es new
+  kept_same new h =
+      record { small = k.small; rising = k.rising; half = k.half; same = λ link. h link ∙ k.same link }
+
+  -- ---- the oldest of a link
+
+  link_first : (link : ℕ) → slice_get (numbers_of lists link) 0
+      ≡ option_map (λ (e : Entry). e.number) (find (is_of link) es)
+  link_first link = ap (λ ns. slice_get ns 0) (k.same link) ∙ numbers_first link es
+
+  pub link_none : (link : ℕ) → slice_get (numbers_of lists link) 0 ≡ None →
+      (find (is_of link) es ≡ None) × (without_first (is_of link) es ≡ es)
+  link_none link h = let none = by (find (is_of link) es) (sym (link_first link) ∙ h) in
+      (none, not_found (is_of link) es none)
+    where
+      by : (o : Option Entry) → option_map (λ (e : Entry). e.number) o ≡ None → o ≡ None
+      by None e = refl
+      by (Some x) e = absurd (let is : Some x.number ≡ None = e in grind (arith, is))
+
+  pub link_some : (link n : ℕ) → slice_get (numbers_of lists link) 0 ≡ Some n →
+      (find (has_number n) es ≡ find (is_of link) es)
+      × (without_first (has_number n) es ≡ without_first (is_of link) es)
+  link_some link n h = by (find (is_of link) es) refl (sym (link_first link) ∙ h)
+    where
+      by : (o : Option Entry) → find (is_of link) es ≡ o → option_map (λ (e : Entry). e.number) o ≡ Some n →
+          (find (has_number n) es ≡ find (is_of link) es)
+          × (without_first (has_number n) es ≡ without_first (is_of link) es)
+      by None t e = absurd (let i : (let i : Option ℕ = None in i) ≡ Some n = e in grind (arith, i))
+      by (Some y) t e =
+          let is : Some y.number ≡ Some n = e in
+          let number : y.number ≡ n = grind (arith, is) in
+          let found = number_finds base (is_of link) es y k.rising t in (
+            subst (λ m. find (has_number m) es ≡ find (is_of link) es) number (found.0 ∙ sym t),
+            subst (λ m. without_first (has_number m) es ≡ without_first (is_of link) es) number found.1,
+          )
+
+  -- ---- an entry goes
+
+  module _ (rank : ℕ) (e : Entry) (at : slice_get es rank ≡ Some e) where
+    abbrev left : List Entry
+    left = take rank es ++ drop (suc rank) es
+
+    whole : es ≡ take rank es ++ e ∷ drop (suc rank) es
+    whole = sym (take-append-drop rank es) ∙ ap (λ xs. take rank es ++ xs) (from_item rank es e at)
+
+    before : NonePasses (has_number e.number) (take rank es)
+    before = each_map (λ x. entry_far base x < entry_far base e) (λ x. has_number e.number x ≡ false)
+        (λ x far. other_test x.number e.number
+        (λ is. let same : entry_far base x ≡ entry_far base e = ap (distance base) is in omega (arith, far, same)))
+        (take rank es)
+        (each_before_item (entry_far base) rank es e k.rising at)
+
+    gone : without_first (has_number e.number) es ≡ left
+    gone = (found_at (has_number e.number) rank es e before at (equal_test e.number e.number refl)).1
+
+    -- the numbers of its link are those before it, its own, and those after it
+    own_whole : numbers_of lists e.link
+        ≡ numbers_in e.link (take rank es) ++ e.number ∷ numbers_in e.link (drop (suc rank) es)
+    own_whole = k.same e.link ∙ ap (numbers_in e.link) whole
+        ∙ numbers_append e.link (take rank es) (e ∷ drop (suc rank) es)
+        ∙ ap (λ ns. numbers_in e.link (take rank es) ++ ns)
+        (numbers_own e.link e (drop (suc rank) es) (equal_test e.link e.link refl))
+
+    own_first : (find (is_number e.number) (numbers_of lists e.link) ≡ Some e.number)
+        × (without_first (is_number e.number) (numbers_of lists e.link) ≡ numbers_in e.link left)
+    own_first =
+        let r = first_after (is_number e.number) (numbers_in e.link (take rank es)) e.number
+        (numbers_in e.link (drop (suc rank) es)) (numbers_none e.link e.number (take rank es) before)
+        (equal_test e.number e.number refl) in (
+          ap (find (is_number e.number)) own_whole ∙ r.0,
+          ap (without_first (is_number e.number)) own_whole ∙ r.1
+              ∙ sym (numbers_append e.link (take rank es) (drop (suc rank) es)),
         )
 
--- ---- an entry goes
+    -- its number is there
+    pub number_found : IsSome (find (is_number e.number) (numbers_of lists e.link))
+    number_found = ap is_some own_first.0
 
-module _ (base rank : ℕ) (es : List Entry) (ks : List Key) (e : Entry) (k : IsKept base es ks)
-    (at : slice_get es rank ≡ Some e) where
-  abbrev test : Key → Bool
-  test x = is_key base (key_of e) x
+    other_whole : (link : ℕ) → is_of link e ≡ false → numbers_of lists link ≡ numbers_in link left
+    other_whole link t = k.same link ∙ ap (numbers_in link) whole
+        ∙ numbers_append link (take rank es) (e ∷ drop (suc rank) es)
+        ∙ ap (λ ns. numbers_in link (take rank es) ++ ns) (numbers_other link e (drop (suc rank) es) t)
+        ∙ sym (numbers_append link (take rank es) (drop (suc rank) es))
 
-  before : NonePasses (λ x. test (key_of x)) (take rank es)
-  before = each_map (λ x. entry_far base x < entry_far base e) (λ x. test (key_of x) ≡ false)
-      (λ x far. other_test (key_far base (key_of x)) (key_far base (key_of e)) (λ is. omega (arith, far, is)))
-      (take rank es)
-      (each_before_item (entry_far base) rank es e k.rising at)
+    module _ (new : List (Sequence ℕ)) (loses : Loses e.number e.link lists new) where
+      same_left : (link : ℕ) → numbers_of new link ≡ numbers_in link left
+      same_left link = by (is_of link e) refl
+        where
+          by : (b : Bool) → is_of link e ≡ b → numbers_of new link ≡ numbers_in link left
+          by true t = subst (λ l. numbers_of new l ≡ numbers_in l left) (test_equal e.link link t)
+              (loses.own ∙ own_first.1)
+          by false t = loses.others link (λ is. true≢false (sym (equal_test e.link link (sym is)) ∙ t))
+              ∙ other_whole link t
 
-  entry_found : (find (λ x. test (key_of x)) es ≡ Some e)
-      × (without_first (λ x. test (key_of x)) es ≡ take rank es ++ drop (suc rank) es)
-  entry_found = found_at (λ x. test (key_of x)) rank es e before at
-      (equal_test (key_far base (key_of e)) (key_far base (key_of e)) refl)
-
-  -- its key is there
-  pub key_found : find test ks ≡ Some (key_of e)
-  key_found =
-      let weaker = λ (x : Key) (t : test x ≡ true). equal_test x.link e.link (same_link base (key_of e) x t) in
-      sym (find_filtered test (is_key_of e.link) weaker ks) ∙ ap (find test) (k.same e.link)
-      ∙ find_filtered test (is_key_of e.link) weaker (map key_of es) ∙ find_map key_of test es
-      ∙ ap (option_map key_of) entry_found.0
-
-  -- of each link the same keys are left
-  same_left : (l : ℕ) → filter (is_key_of l) (without_first test ks)
-      ≡ filter (is_key_of l) (map key_of (take rank es ++ drop (suc rank) es))
-  same_left l =
-      let own = λ (x : Key) (t : test x ≡ true). ap (λ n. nat_eq n l) (same_link base (key_of e) x t) in
-      let b : Bool = is_key_of l (key_of e) in
-      filter_without test (is_key_of l) b own ks
-      ∙ ap (λ ys. cond b (without_first test ys) ys) (k.same l)
-      ∙ sym (filter_without test (is_key_of l) b own (map key_of es))
-      ∙ ap (filter (is_key_of l)) (without_map key_of test es ∙ ap (map key_of) entry_found.1)
-
-  pub kept_without : IsKept base (take rank es ++ drop (suc rank) es) (without_first test ks)
-  kept_without =
-      let gone = entry_found.1 in
-      let p : Entry → Bool = λ x. test (key_of x) in
-      record {
-        small = subst (λ xs. Below (2 ^ 32) (map (λ (x : Entry). x.number) xs)) gone
-            (each_below (λ (x : Entry). x.number) (2 ^ 32) (without_first p es)
-            (each_without (λ x. x.number < 2 ^ 32) p es
-            (below_each (λ (x : Entry). x.number) (2 ^ 32) es k.small)));
-        rising = subst (λ xs. IsRising (map (entry_far base) xs)) gone (rising_without (entry_far base) p es k.rising);
-        half = subst (λ xs. Below (2 ^ 31) (map (entry_far base) xs)) gone
-            (each_below (entry_far base) (2 ^ 31) (without_first p es)
-            (each_without (λ x. entry_far base x < 2 ^ 31) p es (below_each (entry_far base) (2 ^ 31) es k.half)));
-        keys_rising = rising_without (key_far base) test ks k.keys_rising;
-        same = same_left;
-        as_many =
-            let one = one_fewer test ks (key_of e) key_found in
-            let other = one_fewer p es e entry_found.0 in
-            let same = ap length gone in
-            let many = k.as_many in
-            omega (arith, one, other, same, many);
-      }
+      pub kept_without : IsKept base left new
+      kept_without =
+          let p = has_number e.number in
+          record {
+            small = subst (λ xs. Below (2 ^ 32) (map (λ (x : Entry). x.number) xs)) gone
+                (each_below (λ (x : Entry). x.number) (2 ^ 32) (without_first p es)
+                (each_without (λ x. x.number < 2 ^ 32) p es
+                (below_each (λ (x : Entry). x.number) (2 ^ 32) es k.small)));
+            rising = subst (λ xs. IsRising (map (entry_far base) xs)) gone
+                (rising_without (entry_far base) p es k.rising);
+            half = subst (λ xs. Below (2 ^ 31) (map (entry_far base) xs)) gone
+                (each_below (entry_far base) (2 ^ 31) (without_first p es)
+                (each_without (λ x. entry_far base x < 2 ^ 31) p es (below_each (entry_far base) (2 ^ 31) es k.half)));
+            same = same_left;
+          }

@@ -12,7 +12,7 @@ use Rattle.amqp_unsettled.specs.History.{AsksLen, AsksEmpty}
 use Rattle.amqp_unsettled.specs.Laws.{WasInserted, GivenOnce, IsAskedFor, GivenAsAsked, AnswersBy, AnswersByHistory}
 use Rattle.amqp_unsettled.specs.Laws.{until_none, GivesAll}
 use Rattle.amqp_unsettled.proofs.ListLemmas.{not_found, found_passes}
-use Rattle.amqp_unsettled.proofs.KeyLemmas.{test_equal}
+use Rattle.amqp_unsettled.proofs.NumberLemmas.{test_equal}
 use Rattle.amqp_unsettled.proofs.ChainLemmas.{cut, cut_of, joined}
 use Rattle.amqp_unsettled.proofs.TableLemmas.{none_pass, first_passes}
 use Rattle.amqp_unsettled.proofs.HistoryLemmas.{Stands, stands}

@@ -1,9 +1,10 @@
 pub mod ListLemmas
 pub mod OrderLemmas
 pub mod PlaceLemmas
-pub mod KeyLemmas
+pub mod NumberLemmas
 pub mod RankLemmas
 pub mod NextLemmas
+pub mod LinkLemmas
 pub mod KeptLemmas
 pub mod InsertLemmas
 pub mod ChainLemmas

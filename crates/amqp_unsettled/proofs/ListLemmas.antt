@@ -1,7 +1,7 @@
 -- The first item that passes a test, the items that do, and a list without the first one.
-use Rattle.std.proofs.Common.{◌≡◌, ℕ, suc, zero, ◌+◌, arith, List, [], ◌∷◌, ◌++◌, length, take, drop, map}
-use Rattle.std.proofs.Common.{ap, sym, subst, ◌∙◌, refl, cond, Bool, true, false, true≢false, Option, Some, None}
-use Rattle.std.specs.Prelude.{slice_get, option_map}
+use Rattle.std.proofs.Common.{◌≡◌, ℕ, suc, zero, arith, List, [], ◌∷◌, ◌++◌, take, drop, map}
+use Rattle.std.proofs.Common.{ap, sym, subst, ◌∙◌, refl, cond, Bool, true, false, Option, Some, None}
+use Rattle.std.specs.Prelude.{slice_get}
 use Rattle.std.specs.List.{filter, find}
 use Rattle.amqp_unsettled.specs.Table.{without_first}
 
@@ -22,11 +22,6 @@ module _ {X : Type 0} where
   pub each_both : (P Q : X → Type 0) (xs : List X) → Each P xs → Each Q xs → Each (λ x. P x × Q x) xs
   each_both P Q [] h k = tt
   each_both P Q (x ∷ xs) h k = ((h.0, k.0), each_both P Q xs h.1 k.1)
-
-  pub each_take : (P : X → Type 0) (n : ℕ) (xs : List X) → Each P xs → Each P (take n xs)
-  each_take P zero xs h = tt
-  each_take P (suc n) [] h = tt
-  each_take P (suc n) (x ∷ xs) h = (h.0, each_take P n xs h.1)
 
   pub each_drop : (P : X → Type 0) (n : ℕ) (xs : List X) → Each P xs → Each P (drop n xs)
   each_drop P zero xs h = h
@@ -105,19 +100,6 @@ module _ {X : Type 0} where
           let same : y ≡ x = grind (arith, is) in sym (ap p same) ∙ t
       by false t on = on (sym (ap (λ b. cond b (Some y) (find p ys)) t) ∙ e)
 
-  -- one fewer is left
-  pub one_fewer : (p : X → Bool) (xs : List X) (x : X) → find p xs ≡ Some x →
-      length xs ≡ length (without_first p xs) + 1
-  one_fewer p [] x e = absurd (let n : (let n : Option X = None in n) ≡ Some x = e in grind (arith, n))
-  one_fewer p (y ∷ ys) x e = by (p y) refl (λ rest. one_fewer p ys x rest)
-    where
-      by : (b : Bool) → p y ≡ b → (find p ys ≡ Some x → length ys ≡ length (without_first p ys) + 1) →
-          length (y ∷ ys) ≡ length (cond (p y) ys (y ∷ without_first p ys)) + 1
-      by true t on = rw t (omega arith)
-      by false t on =
-          let r = on (sym (ap (λ b. cond b (Some y) (find p ys)) t) ∙ e) in
-          rw t (omega (arith, r))
-
   pub each_without : (P : X → Type 0) (p : X → Bool) (xs : List X) → Each P xs → Each P (without_first p xs)
   each_without P p [] h = tt
   each_without P p (x ∷ xs) h = by (p x) (each_without P p xs h.1)
@@ -137,93 +119,9 @@ module _ {X : Type 0} where
       by true r = ap (λ zs. x ∷ zs) r
       by false r = r
 
-  pub none_filtered : (q : X → Bool) (xs : List X) → NonePasses q xs → filter q xs ≡ []
-  none_filtered q [] h = refl
-  none_filtered q (x ∷ xs) h = rw h.0 (none_filtered q xs h.1)
-
-  -- the first that passes one test is among those that pass a weaker one
-  pub find_filtered : (p q : X → Bool) → ((x : X) → p x ≡ true → q x ≡ true) → (xs : List X) →
-      find p (filter q xs) ≡ find p xs
-  find_filtered p q weaker [] = refl
-  find_filtered p q weaker (x ∷ xs) = by (p x) (q x) refl refl (find_filtered p q weaker xs)
-    where
-      by : (b c : Bool) → p x ≡ b → q x ≡ c → find p (filter q xs) ≡ find p xs →
-          find p (cond (q x) (x ∷ filter q xs) (filter q xs)) ≡ cond (p x) (Some x) (find p xs)
-      by true true t u r = rw (u, t) refl
-      by true false t u r = absurd (true≢false (sym (weaker x t) ∙ u))
-      by false true t u r = rw (u, t) r
-      by false false t u r = rw (u, t) r
-
-  -- those that pass another test, without the first that passes this one: it passes both, or not the other
-  pub filter_without : (p q : X → Bool) (b : Bool) → ((x : X) → p x ≡ true → q x ≡ b) → (xs : List X) →
-      filter q (without_first p xs) ≡ cond b (without_first p (filter q xs)) (filter q xs)
-  filter_without p q true h [] = refl
-  filter_without p q false h [] = refl
-  filter_without p q b h (x ∷ xs) = by b (p x) (q x) h refl refl (filter_without p q b h xs)
-    where
-      by : (b c d : Bool) → ((y : X) → p y ≡ true → q y ≡ b) → p x ≡ c → q x ≡ d →
-          filter q (without_first p xs) ≡ cond b (without_first p (filter q xs)) (filter q xs) →
-          filter q (cond (p x) xs (x ∷ without_first p xs))
-          ≡ cond b (without_first p (cond (q x) (x ∷ filter q xs) (filter q xs)))
-          (cond (q x) (x ∷ filter q xs) (filter q xs))
-      by true true true h t u r = rw (t, u, t) refl
-      by true true false h t u r = absurd (true≢false (sym (h x t) ∙ u))
-      by true false true h t u r = rw (t, u, t) (ap (λ ys. x ∷ ys) r)
-      by true false false h t u r = rw (t, u) r
-      by false true true h t u r = absurd (true≢false (sym u ∙ h x t))
-      by false true false h t u r = rw (t, u) refl
-      by false false true h t u r = rw (t, u) (ap (λ ys. x ∷ ys) r)
-      by false false false h t u r = rw (t, u) r
-
-  -- what holds of those that pass each of some tests holds of all, where each item passes its own
-  pub each_of_filters : {L : Type 0} (P : X → Type 0) (q : L → X → Bool) (own : X → L) →
-      ((x : X) → q (own x) x ≡ true) →
-      (xs : List X) → ((l : L) → Each P (filter (q l) xs)) → Each P xs
-  each_of_filters P q own passes [] h = tt
-  each_of_filters {L} P q own passes (x ∷ xs) h = (
-    first (subst (λ b. Each P (cond b (x ∷ filter (q (own x)) xs) (filter (q (own x)) xs))) (passes x) (h (own x))),
-    each_of_filters P q own passes xs (λ l. rest l (q l x) (h l)),
-  )
-    where
-      first : Each P (x ∷ filter (q (own x)) xs) → P x
-      first e = e.0
-
-      rest : (l : L) (b : Bool) → Each P (cond b (x ∷ filter (q l) xs) (filter (q l) xs)) → Each P (filter (q l) xs)
-      rest l true e = e.1
-      rest l false e = e
-
 -- ---- through a map
 
 module _ {X Y : Type 0} (f : X → Y) where
-  pub find_map : (p : Y → Bool) (xs : List X) → find p (map f xs) ≡ option_map f (find (λ x. p (f x)) xs)
-  find_map p [] = refl
-  find_map p (x ∷ xs) = by (p (f x)) (find_map p xs)
-    where
-      by : (b : Bool) → find p (map f xs) ≡ option_map f (find (λ y. p (f y)) xs) →
-          cond b (Some (f x)) (find p (map f xs)) ≡ option_map f (cond b (Some x) (find (λ y. p (f y)) xs))
-      by true r = refl
-      by false r = r
-
-  pub without_map : (p : Y → Bool) (xs : List X) → without_first p (map f xs) ≡ map f (without_first (λ x. p (f x)) xs)
-  without_map p [] = refl
-  without_map p (x ∷ xs) = by (p (f x)) (without_map p xs)
-    where
-      by : (b : Bool) → without_first p (map f xs) ≡ map f (without_first (λ y. p (f y)) xs) →
-          cond b (map f xs) (f x ∷ without_first p (map f xs)) ≡ map f (cond b xs (x ∷ without_first (λ y. p (f y)) xs))
-      by true r = refl
-      by false r = ap (λ ys. f x ∷ ys) r
-
-  pub filter_map_length : (p : Y → Bool) (xs : List X) →
-      length (filter p (map f xs)) ≡ length (filter (λ x. p (f x)) xs)
-  filter_map_length p [] = refl
-  filter_map_length p (x ∷ xs) = by (p (f x)) (filter_map_length p xs)
-    where
-      by : (b : Bool) → length (filter p (map f xs)) ≡ length (filter (λ y. p (f y)) xs) →
-          length (cond b (f x ∷ filter p (map f xs)) (filter p (map f xs)))
-          ≡ length (cond b (x ∷ filter (λ y. p (f y)) xs) (filter (λ y. p (f y)) xs))
-      by true r = omega (arith, r)
-      by false r = r
-
   pub each_mapped : (P : Y → Type 0) (xs : List X) → Each (λ x. P (f x)) xs → Each P (map f xs)
   each_mapped P [] h = tt
   each_mapped P (x ∷ xs) h = (h.0, each_mapped P xs h.1)

@@ -3,7 +3,7 @@ use Rattle.std.proofs.Common.{◌-◌, ◌≡◌, ℕ, suc, zero, ◌+◌, ◌<�
 use Rattle.std.proofs.Common.{map}
 use Rattle.std.proofs.Common.{ap, sym, subst, ◌∙◌, refl, cond, inl, inr, min, Bool, true, false, Option, Some, None}
 use Rattle.std.specs.Prelude.{slice_get, slice_index}
-use Rattle.std.specs.List.{find, insert}
+use Rattle.std.specs.List.{find}
 use Rattle.std.proofs.lemmas.Bool.{cases_order}
 use Rattle.amqp_unsettled.specs.Table.{without_first}
 use Rattle.amqp_unsettled.specs.Inner.Order.{Above, Below, IsRising, Begins, HoldsPlace}
@@ -234,18 +234,6 @@ module _ {X : Type 0} (f : X → ℕ) where
       by true k = r.1
       by false k =
           (each_above (f x) (without_first p xs) (each_without (λ y. f x < f y) p xs (above_each (f x) xs r.0)), k)
-
-  pub rising_insert : (c : ℕ) (xs : List X) (x : X) → IsRising (map f xs) → Each (λ y. f y < f x) (take c xs) →
-      Each (λ y. f x < f y) (drop c xs) → IsRising (map f (insert xs c x))
-  rising_insert zero xs x r before after = (each_above (f x) xs after, r)
-  rising_insert (suc c) [] x r before after = (tt, tt)
-  rising_insert (suc c) (y ∷ ys) x r before after =
-      (put c ys (above_each (f y) ys r.0) before.0, rising_insert c ys x r.1 before.1 after)
-    where
-      put : (c : ℕ) (zs : List X) → Each (λ z. f y < f z) zs → f y < f x → Above (f y) (map f (insert zs c x))
-      put zero zs a h = (h, each_above (f y) zs a)
-      put (suc c) [] a h = (h, tt)
-      put (suc c) (z ∷ zs) a h = (a.0, put c zs a.1 h)
 
   pub rising_end : (xs : List X) (x : X) → IsRising (map f xs) → Each (λ y. f y < f x) xs →
       IsRising (map f (xs ++ x ∷ []))

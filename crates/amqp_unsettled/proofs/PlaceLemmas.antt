@@ -1,5 +1,5 @@
 -- What stands at the place where a search ended: the first item that passes a test, or none does.
-use Rattle.std.proofs.Common.{◌-◌, ◌≡◌, ℕ, suc, zero, ◌<◌, ◌≤◌, arith, List, [], ◌∷◌, ◌++◌, length, take, drop, map}
+use Rattle.std.proofs.Common.{◌≡◌, ℕ, suc, zero, ◌<◌, ◌≤◌, arith, List, [], ◌∷◌, ◌++◌, length, take, drop, map}
 use Rattle.std.proofs.Common.{ap, sym, subst, ◌∙◌, refl, add-one, Bool, true, false, true≢false, inl, inr, Option, Some}
 use Rattle.std.proofs.Common.{None, IsSome}
 use Rattle.std.specs.Prelude.{slice_get, is_some}
@@ -9,7 +9,6 @@ use Rattle.amqp_unsettled.specs.Inner.Order.{IsRising, Begins, IsPlaceOf}
 use Rattle.amqp_unsettled.proofs.ListLemmas.{Each, NonePasses, each_map, each_both, each_drop, each_join, none_found}
 use Rattle.amqp_unsettled.proofs.ListLemmas.{found_at}
 use Rattle.amqp_unsettled.proofs.OrderLemmas.{each_before, each_from, each_after_item, within_list}
-use Rattle.amqp_unsettled.proofs.OrderLemmas.{mapped_length, narrow_below}
 
 module _ {X : Type 0} where
   pub item_at : (xs : List X) (c : ℕ) → c < length xs → (x : X) × (slice_get xs c ≡ Some x)
@@ -34,29 +33,6 @@ module _ {X : Type 0} where
       let it = item_at xs c h in
       let is : Some it.0 ≡ None = sym it.1 ∙ e in
       grind (arith, is)
-
-  -- where the last item has less than the target, or there is none, the place is the length
-  pub begins_empty : (f : X → ℕ) (target : ℕ) (xs : List X) → slice_get xs (length xs - 1) ≡ None →
-      Begins (map f xs) target (length xs)
-  begins_empty f target [] e = record {
-    within = omega arith;
-    below = λ i h. absurd (omega (arith, h));
-    above = λ i h k. absurd (omega (arith, k));
-  }
-  begins_empty f target (x ∷ xs) e = absurd (some_item (x ∷ xs) (length (x ∷ xs) - 1) (omega arith) e)
-
-  pub begins_past : (f : X → ℕ) (target : ℕ) (xs : List X) (last : X) → IsRising (map f xs) →
-      slice_get xs (length xs - 1) ≡ Some last → f last < target →
-      Begins (map f xs) target (length xs)
-  begins_past f target xs last r end less =
-      let l = mapped_length f xs in
-      let w = within_list f xs (length xs - 1) last end in
-      let below = narrow_below f xs (length xs - 1) target (f last) last r end refl less in
-      record {
-        within = omega (arith, l);
-        below = λ i h. below i (omega (arith, h, w));
-        above = λ i h k. absurd (omega (arith, h, k, l));
-      }
 
   -- nothing is there, or the first item passes
   pub place_empty : (p : X → Bool) (xs : List X) → slice_get xs 0 ≡ None → IsPlaceOf p xs None

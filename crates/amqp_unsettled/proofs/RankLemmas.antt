@@ -11,7 +11,7 @@ use Rattle.amqp_unsettled.specs.Inner.Order.{Below, IsRising, Begins, IsPlaceOf,
 use Rattle.amqp_unsettled.proofs.ListLemmas.{Each}
 use Rattle.amqp_unsettled.proofs.OrderLemmas.{below_each}
 use Rattle.amqp_unsettled.proofs.PlaceLemmas.{place_none, past_end, not_there, there}
-use Rattle.amqp_unsettled.proofs.KeyLemmas.{equal_test, other_test}
+use Rattle.amqp_unsettled.proofs.NumberLemmas.{equal_test, other_test}
 
 -- ---- a number
 

@@ -7,7 +7,7 @@ use Rattle.amqp_unsettled.specs.Serial.{distance, is_after}
 use Rattle.amqp_unsettled.specs.Table.{has_number, without_first}
 use Rattle.amqp_unsettled.specs.Laws.{InOrder}
 use Rattle.amqp_unsettled.proofs.ListLemmas.{Each, each_map, each_without, found_each}
-use Rattle.amqp_unsettled.proofs.KeyLemmas.{equal_test, other_test}
+use Rattle.amqp_unsettled.proofs.NumberLemmas.{equal_test, other_test}
 use Rattle.amqp_unsettled.proofs.NextLemmas.{all_pass, each_passes, is_after_parts}
 
 module _ {X : Type 0} where

@@ -11,7 +11,8 @@ use crate::serial::distance;
 pub struct Entry {
     /// Its delivery number, a serial number (AMQP 1.0 part 2, section 2.8.4).
     pub number: u32,
-    /// The link that it belongs to, by a number of the caller's.
+    /// The link that it belongs to, by a number of the caller's. A table keeps a list for each number up to the
+    /// highest: so low ones cost least, as the handles of a session.
     pub link: u32,
     /// What the caller gave with it.
     pub given: u64,
@@ -31,6 +32,6 @@ impl Ordered for Entry {
 pub enum InsertError {
     /// Its number does not lie after that of each delivery in the table, by less than 2^31.
     NotNext,
-    /// Memory was refused.
+    /// Memory was refused: for the delivery, or for the lists of the links up to its own.
     OutOfMemory,
 }

@@ -18,27 +18,27 @@
 //!
 //! | Call | What it costs |
 //! |---|---|
-//! | `len`, `is_empty` | constant |
-//! | `get`, `find_next` | a search of the numbers |
-//! | `count_of` | two searches of the links |
-//! | `insert` | a search of the links, and one delivery put in |
-//! | `remove_oldest` | a search of the links, and one taken out |
-//! | `remove`, `settle_next` | a search of the numbers; where one goes, a search of the links too, and one taken out |
-//! | `remove_next_of` | two searches of the links and one of the numbers, and one taken out |
+//! | `len`, `is_empty`, `count_of`, `forget_link` | constant |
+//! | `get`, `find_next`, `next_of` | a search of the numbers |
+//! | `insert` | constant; with the highest link until then, a step for each link between it and the highest before |
+//! | `remove_oldest` | constant: it is the oldest of its link too |
+//! | `remove`, `settle_next` | a search of the numbers; where one goes, one of its link's, and it is taken out of both |
+//! | `remove_next_of` | a search of the numbers, and one taken out |
 //!
-//! A search of the numbers is constant where it ends at the oldest, or where none is missing between the oldest and the
-//! newest, or all that are stand in one stretch; and else logarithmic in how many are missing, and in n. A search of the links is constant where there is one and no number is missing, and
-//! else logarithmic in n. To put one in or take it out moves a block of 256 at most, and takes a step for each block
-//! between it and that of the change before, as `amqp_blocks` does it. No cost grows with how many numbers a range has,
-//! nor with how many links there are.
+//! A search is constant where it ends at the oldest or the newest, or where none is missing between them, or all that
+//! are stand in one stretch; and else logarithmic in how many are missing, and in n. To take one out from among others
+//! moves a block of 256 at most, and takes a step for each block between it and that of the change before, as
+//! `amqp_blocks` does it. No cost grows with how many numbers a range has, nor with how many links there are.
 //!
-//! The memory is that of what is unsettled. Where many were, the lists of their blocks stay until nothing is unsettled.
+//! The memory is that of what is unsettled, and of a list for each link up to the highest: so links are to have low
+//! numbers, as the handles of a session are. Where many deliveries were, the lists of their blocks stay until nothing
+//! is unsettled. With the last delivery then all memory goes, in a step for each link. `forget_link` lets that of a
+//! link's list go, but for its place.
 #![tactic(auto)]
 
 mod entry;
-mod key;
-mod keys;
 pub mod laws;
+mod lists;
 mod order;
 mod rank;
 mod search;

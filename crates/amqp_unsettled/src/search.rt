@@ -1,6 +1,6 @@
 //! Where items of at least so much begin: in the part that can hold the place, by halving.
 
-ghost use Rattle.std.specs.Prelude.{IsTrue, length, map};
+ghost use Rattle.std.specs.Prelude.{map};
 ghost use Rattle.amqp_unsettled.specs.Inner.Order.{IsRising, Begins, HoldsPlace};
 
 use crate::order::Ordered;
@@ -38,18 +38,6 @@ fn part_of<T: Ordered>(items: &Blocks<T>, base: u32, target: u64) -> Part
     Part {
         low: (len - 1).saturating_sub((end - target) as usize),
         high,
-    }
-}
-
-/// Whether each item lies less far after the base: then the place is the length. Only the last one is looked at.
-#[inline(always)]
-pub(crate) fn is_past_all<T: Ordered>(items: &Blocks<T>, base: u32, target: u64) -> bool
-    requires rising { IsRising (map (T.far_of base) items.now.items) }
-    ensures { IsTrue result → Begins (map (T.far_of base) items.now.items) target (length items.now.items) }
-{
-    match items.last() {
-        Some(last) => last.far(base) < target,
-        None => true,
     }
 }
 

@@ -3,7 +3,8 @@
 //! What the crates below offer is offered here too, so that a user needs this crate alone; but `From` is in scope only where the crate of
 //! its impl is named too: `amqp_session` for a handle's `Handle` and a channel's `u16`, `amqp_connection` for the `BeginError` of a
 //! refused channel. The methods `handle`, `number` and `begin_error` need neither. Each name stands here at the root, but for the laws
-//! and the four errors that are named `Error`: those stand in the modules. `Connection` stands in both. This crate's own part is
+//! and the four errors that are named `Error`: those stand in the modules. `Connection` stands in both. The definitions that their
+//! contracts cite are offered too, each crate's under its name: `Rattle.fe2o3_amqp.specs.amqp_engine.Promise`. This crate's own part is
 //! how a refused frame is answered, and transcripts: an engine that is driven by lines of text.
 //!
 //! ```

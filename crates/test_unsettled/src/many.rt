@@ -56,6 +56,23 @@ fn all_at_once(rt: HostRuntime) -> Result<(), Fail> {
     Ok(())
 }
 
+/// All goes with the last one where many were, also what was kept for links.
+#[test]
+fn links_come_again_where_the_memory_was_let_go(rt: HostRuntime) -> Result<(), Fail> {
+    let mut table = Unsettled::new(rt.alloc());
+    for _ in 0..3u32 {
+        for i in 0..3_000u32 {
+            same(&rt, table.insert(entry(i, i % 1_000)), Ok(()));
+        }
+        for i in 0..3_000u32 {
+            same(&rt, table.remove_oldest(), Some(entry(i, i % 1_000)));
+        }
+        same(&rt, table.count_of(999), 0);
+        same(&rt, table.next_of(0), None);
+    }
+    Ok(())
+}
+
 #[test]
 fn the_newest_first(rt: HostRuntime) -> Result<(), Fail> {
     let mut table = filled(&rt, rt.alloc());

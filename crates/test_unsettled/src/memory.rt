@@ -19,6 +19,35 @@ fn put(rt: &impl Abort, table: &mut Unsettled, number: u32) {
     }
 }
 
+/// The same of links that come one after the other, so that there is no list for any of them.
+fn put_on(rt: &impl Abort, table: &mut Unsettled, number: u32) {
+    let link = number * 3;
+    if table.insert(entry(number, link)) == Err(InsertError::OutOfMemory) {
+        same(rt, table.len(), number as usize);
+        same(rt, table.get(number), None);
+        same(rt, table.count_of(link), 0);
+        same(rt, table.next_of(link), None);
+        same(rt, table.count_of(0), number.min(1) as usize);
+        same(rt, table.insert(entry(number, link)), Ok(()));
+    }
+    same(rt, table.count_of(link), 1);
+}
+
+/// It holds wherever memory is refused.
+#[test]
+fn a_refused_link_leaves_nothing(rt: HostRuntime) -> Result<(), Fail> {
+    let mut table = Unsettled::new(rt.alloc());
+    for number in 0..40u32 {
+        put_on(&rt, &mut table, number);
+    }
+    for number in 0..40u32 {
+        let wanted = Some(entry(number, number * 3));
+        same(&rt, table.remove_next_of(number * 3), wanted);
+    }
+    same(&rt, table.len(), 0);
+    Ok(())
+}
+
 /// It holds at whichever request for memory one is refused, as `rt try --test --fail-alloc N` does, and with none
 /// refused.
 #[test]

@@ -1,13 +1,13 @@
 -- Part: other calls; inner.
--- How the entries of a table, and the keys of its links, are kept in order: by how far their numbers lie after a base.
-use Rattle.std.specs.Prelude.{ℕ, ◌+◌, ◌*◌, ◌^◌, ◌<◌, ◌≤◌, ◌≡◌, nat_eq, nat_lt, if◌then◌else◌, Bool, true, false, Option}
-use Rattle.std.specs.Prelude.{Some, None}
-use Rattle.std.specs.Prelude.{List, [], ◌∷◌, ◌++◌, length, map, take, drop, slice_get, slice_index}
-use Rattle.std.specs.List.{filter, find, insert}
+-- How the entries of a table are kept in order, by how far their numbers lie after a base, and the numbers of each link.
+use Rattle.std.specs.Prelude.{ℕ, ◌+◌, ◌^◌, ◌<◌, ◌≤◌, ◌≡◌, ◌≢◌, nat_eq, nat_lt, if◌then◌else◌, Bool, true, false}
+use Rattle.std.specs.Prelude.{Option, Some, None}
+use Rattle.std.specs.Prelude.{List, [], ◌∷◌, ◌++◌, length, map, take, drop, slice_get, slice_index, slice_index_or}
+use Rattle.std.specs.List.{filter, find}
+use Rattle.amqp_blocks.specs.Chunked.{Sequence}
 use Rattle.amqp_unsettled.specs.declared.entry.Entry.{Entry}
-use Rattle.amqp_unsettled.specs.declared.key.Key.{Key}
 use Rattle.amqp_unsettled.specs.Serial.{distance}
-use Rattle.amqp_unsettled.specs.Table.{is_next, without_first}
+use Rattle.amqp_unsettled.specs.Table.{is_next, is_of, without_first}
 
 -- each of these is more than n
 abbrev pub Above : ℕ → List ℕ → Type 0
@@ -41,39 +41,13 @@ pub record HoldsPlace (ks : List ℕ) (target low high : ℕ) : Type 0 where
 abbrev pub entry_far : ℕ → Entry → ℕ
 entry_far base e = distance base e.number
 
--- keys go by their link, and those of one link by how far they lie after a base
-abbrev pub key_far : ℕ → Key → ℕ
-key_far base k = k.link * 2 ^ 32 + distance base k.number
-
--- how far the number of a key lies after a base
-abbrev pub number_far : ℕ → Key → ℕ
-number_far base k = distance base k.number
-
--- the key of an entry
-abbrev pub key_of : Entry → Key
-key_of e = record { link = e.link; number = e.number }
-
--- a key of this link
-abbrev pub is_key_of : ℕ → Key → Bool
-is_key_of link k = nat_eq k.link link
-
--- a key that lies just as far as this one
-abbrev pub is_key : ℕ → Key → Key → Bool
-is_key base key k = nat_eq (key_far base k) (key_far base key)
-
--- where the keys of a link begin
-abbrev pub link_start : ℕ → ℕ
-link_start link = link * 2 ^ 32
+-- this number
+abbrev pub is_number : ℕ → ℕ → Bool
+is_number n m = nat_eq m n
 
 -- how far from the base on a range is sought: not at all, where it begins before the base
 abbrev pub start_of : ℕ → ℕ → ℕ
 start_of base first = if nat_lt (distance base first) (2 ^ 31) then distance base first else 0
-
--- a key was put where those begin that lie no less far
-pub record PutInOrder (base : ℕ) (key : Key) (old new : List Key) : Type 0 where
-  pub place : ℕ
-  pub begins : Begins (map (key_far base) old) (key_far base key) place
-  pub items : new ≡ insert old place key
 
 -- The place of the first item that passes a test; where there is none, no item passes.
 abbrev pub IsPlaceOf : {X : Type 0} → (X → Bool) → List X → Option ℕ → Type 0
@@ -92,12 +66,44 @@ abbrev pub IsBaseFor : ℕ → List Entry → Option ℕ → Type 0
 IsBaseFor n es None = is_next n es ≡ false
 IsBaseFor n es (Some base) = (is_next n es ≡ true) × (base ≡ oldest_or n es)
 
--- Entries lie after the base, by less than half of the circle, and rise. The keys are those of the entries: of each
--- link the same ones, in the same order.
-pub record IsKept (base : ℕ) (entries : List Entry) (keys : List Key) : Type 0 where
+-- ---- the numbers of each link
+
+-- a list with no numbers, and with no memory
+abbrev pub no_list : Sequence ℕ
+no_list = record { items = []; room = 0; blocks = 0; spare = 0; at_end = 0 }
+
+-- the list of a link, whose place is its number; that with no numbers, where there is none
+abbrev pub list_of : List (Sequence ℕ) → ℕ → Sequence ℕ
+list_of lists link = slice_index_or lists link no_list
+
+-- the numbers in it
+abbrev pub numbers_of : List (Sequence ℕ) → ℕ → List ℕ
+numbers_of lists link = (list_of lists link).items
+
+-- of each link the numbers are the same
+abbrev pub AsBefore : List (Sequence ℕ) → List (Sequence ℕ) → Type 0
+AsBefore old new = (link : ℕ) → numbers_of new link ≡ numbers_of old link
+
+-- this link has these numbers then, and each other link has what it had
+pub record Becomes (old : List (Sequence ℕ)) (link : ℕ) (numbers : List ℕ) (new : List (Sequence ℕ)) : Type 0 where
+  pub own : numbers_of new link ≡ numbers
+  pub others : (other : ℕ) → other ≢ link → numbers_of new other ≡ numbers_of old other
+
+-- a number comes after those of this link, or the first such number goes
+abbrev pub Gains : ℕ → ℕ → List (Sequence ℕ) → List (Sequence ℕ) → Type 0
+Gains n link old new = Becomes old link (numbers_of old link ++ n ∷ []) new
+
+abbrev pub Loses : ℕ → ℕ → List (Sequence ℕ) → List (Sequence ℕ) → Type 0
+Loses n link old new = Becomes old link (without_first (is_number n) (numbers_of old link)) new
+
+-- the numbers of a link's entries
+abbrev pub numbers_in : ℕ → List Entry → List ℕ
+numbers_in link es = map (λ (e : Entry). e.number) (filter (is_of link) es)
+
+-- Entries lie after the base, by less than half of the circle, and rise. The list of each link has the numbers of its
+-- entries, in the same order.
+pub record IsKept (base : ℕ) (entries : List Entry) (lists : List (Sequence ℕ)) : Type 0 where
   pub small : Below (2 ^ 32) (map (λ e. e.number) entries)
   pub rising : IsRising (map (entry_far base) entries)
   pub half : Below (2 ^ 31) (map (entry_far base) entries)
-  pub keys_rising : IsRising (map (key_far base) keys)
-  pub same : (link : ℕ) → filter (is_key_of link) keys ≡ filter (is_key_of link) (map key_of entries)
-  pub as_many : length keys ≡ length entries
+  pub same : (link : ℕ) → numbers_of lists link ≡ numbers_in link entries

@@ -5,7 +5,7 @@ use Rattle.std.proofs.Common.{ap, sym}
 use Rattle.std.specs.Prelude.{option_copied}
 use Rattle.amqp_unsettled.specs.Table.{has_number}
 use Rattle.amqp_unsettled.proofs.PlaceLemmas.{place_empty, place_first}
-use Rattle.amqp_unsettled.proofs.KeyLemmas.{equal_test}
+use Rattle.amqp_unsettled.proofs.NumberLemmas.{equal_test}
 use Rattle.amqp_unsettled.proofs.rank.rank_of.Goals as goal
 
 pub returns-then-rank-len : goal.returns-then-rank-len
