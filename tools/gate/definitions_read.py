@@ -34,7 +34,7 @@ sys.path.insert(0, str(Path(__file__).resolve().parents[1]))
 import in_words
 import words_of_std
 from gate.reading_order import from_the_top, ordered, told, uses_within
-from gate.specs_read import PART, WORD, imports, module, uses_of
+from gate.specs_read import PART, WORD, imports, module, passed_on, uses_of
 from reference.calls import public_calls, written
 from reference.models import held, lines_of, plain
 from reference.source import Crate, dependencies
@@ -90,7 +90,7 @@ def cited(told):
                 path, name = names.get(at, ("", None))
                 found = OF_CRATE.match(path)
                 if found and (ROOT / "crates" / found[1]).is_dir() and (name or inner):
-                    yield found[1], found[2], name or inner[0]
+                    yield *passed_on(found[1], found[2]), name or inner[0]
 
 
 def reach(names, found, types, is_promise=False):

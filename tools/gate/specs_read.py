@@ -60,11 +60,18 @@ def imports(lines):
         found = USE.match(line)
         if found and (ROOT / "crates" / found[1]).is_dir():
             crate, path, listed, alias = found.groups()
+            crate, path = passed_on(crate, path)
             if alias:
                 aliases[alias] = crate, path
             for name in (listed or "").split(","):
                 names[name.strip()] = crate, path
     return names, aliases
+
+
+def passed_on(crate, path):
+    """Where a module stands: a library passes on those of the crates below it under their names."""
+    below, _, inner = path.partition(".")
+    return (below, inner) if inner and (ROOT / "crates" / below).is_dir() else (crate, path)
 
 
 def flat(lines):

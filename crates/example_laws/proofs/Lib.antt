@@ -1,0 +1,3 @@
+pub mod MappedLemmas
+pub mod AnsweredLemmas
+pub mod AttachedLemmas
