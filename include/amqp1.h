@@ -49,6 +49,7 @@
 
 #include "amqp1/records.h"
 #include "amqp1/exports.h"
+#include "amqp1/attach.h"
 #include "amqp1/calls.h"
 #include "amqp1/links.h"
 #include "amqp1/read.h"

@@ -10,21 +10,9 @@ static uint32_t link_from, shown;
 
 static void attach(void)
 {
-    uint8_t bytes[1024];
-    amqp1_text text = amqp1_text_at(bytes, sizeof bytes);
-    size_t length, source, list = amqp1_begin_list(&text, 0x12, 6);
-    must("a link", amqp1_link(&engine, 0, AMQP1_RECEIVER, AMQP1_FIRST, "browser", &link_from));
-    amqp1_put_string(&text, "browser");
-    amqp1_put_uint(&text, link_from);
-    amqp1_put_boolean(&text, AMQP1_RECEIVER);
-    amqp1_put(&text, "\x40\x40", 2);
-    source = amqp1_begin_list(&text, 0x28, 7);
-    amqp1_put_string(&text, the_address);
-    amqp1_put(&text, "\x40\x40\x40\x40\x40", 5);
-    amqp1_put_symbol(&text, "copy");
-    amqp1_end_list(&text, source), amqp1_end_list(&text, list);
-    must("an attach's text", amqp1_written(&text, &length));
-    must("an attach", amqp1_link_attach(&engine, 0, bytes, length, bytes, 0, 0, 0, &link_from));
+    amqp1_terminus from = amqp1_terminus_at(the_address);
+    from.distribution_mode = "copy";
+    must("a receiver", amqp1_receiver_from(&engine, 0, "browser", &from, 0, &link_from));
 }
 
 void take_record(const amqp1_record *record, const uint8_t *input)

@@ -127,43 +127,18 @@ client::client(int count, char **words, const char *name) : peer(connected(count
     engine.open();
 }
 
-// An Attach, whose termini say more than an address: the lists of their fields.
-static amqp::link attach(client &it, const char *name, amqp1_role role, unsigned descriptor, unsigned long fields,
-                         const std::function<void(amqp1_text *)> &put)
-{
-    std::uint8_t room[1024];
-    amqp1_text text = amqp1_text_at(room, sizeof room);
-    std::size_t length, list, attach = amqp1_begin_list(&text, 0x12, 10);
-    amqp1_put_string(&text, name);
-    amqp1_put_uint(&text, it.engine.allot(0, role, AMQP1_FIRST, name));
-    amqp1_put_boolean(&text, role);
-    amqp1_put(&text, "\x40\x40", 2);
-    if (role == AMQP1_SENDER)
-        amqp1_put_terminus(&text, 0x28, name);
-    list = amqp1_begin_list(&text, descriptor, static_cast<std::uint32_t>(fields));
-    amqp1_put_string(&text, it.address);
-    put(&text);
-    amqp1_end_list(&text, list);
-    if (role == AMQP1_RECEIVER)
-        amqp1_put_terminus(&text, 0x29, name);
-    amqp1_put(&text, "\x40\x40\x43", 3);
-    amqp1_end_list(&text, attach);
-    if (amqp1_written(&text, &length) != AMQP1_DONE)
-        throw std::runtime_error("an address is too long");
-    return it.engine.link_attach(0, {room, length});
-}
-
 amqp::sender client::durable_sender(const char *name)
 {
-    return {attach(*this, name, AMQP1_SENDER, 0x29, 2, [](amqp1_text *text) { amqp1_put_uint(text, 2); })};
+    amqp::terminus to(address);
+    to.durable = AMQP1_DURABLE_UNSETTLED;
+    return engine.sender(0, name, to);
 }
 
 amqp::receiver client::browser(const char *name)
 {
-    return {attach(*this, name, AMQP1_RECEIVER, 0x28, 7, [](amqp1_text *text) {
-        amqp1_put(text, "\x40\x40\x40\x40\x40", 5);
-        amqp1_put_symbol(text, "copy");
-    })};
+    amqp::terminus from(address);
+    from.distribution_mode = "copy";
+    return engine.receiver(0, name, from, 0);
 }
 
 bool peer::send_bytes(amqp::sender link, std::uint32_t number, amqp::bytes message)

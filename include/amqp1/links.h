@@ -27,8 +27,8 @@
 #pragma GCC system_header
 #endif
 
+#include "attach.h"
 #include "calls.h"
-#include "write.h"
 
 #ifdef __cplusplus
 extern "C" {
@@ -265,36 +265,59 @@ AMQP1_FUNCTION int32_t amqp1_link_settled_of(amqp1 *place, const amqp1_event *ev
     return amqp1_link_settled(place, event->session, role, event->first, event->last, delivery);
 }
 
-/* A handle is allotted to a link, unless one is already, as by a call before that memory was refused to; and it is attached: to `target` where it sends,
-   from `source` where it receives. For use within this header. */
-AMQP1_FUNCTION int32_t amqp1_link_to(amqp1 *place, uint32_t session, const char *name, enum amqp1_role role, unsigned snd_settle_mode,
-                                     enum amqp1_rcv_settle_mode rcv_settle_mode, const char *source, const char *target, uint32_t low,
+/* A handle is allotted to a link, unless one is already, as by a call before that memory was refused to; and it is
+   attached, between these termini. For use within this header. */
+AMQP1_FUNCTION int32_t amqp1_link_to(amqp1 *place, uint32_t session, const char *name, enum amqp1_role role,
+                                     const amqp1_terminus *source, const amqp1_terminus *target, uint32_t low,
                                      uint32_t high, uint32_t *link)
 {
     uint8_t attach[AMQP1_ON_STACK];
     size_t length;
-    int32_t status = amqp1_write_attach(attach, sizeof attach, &length, name, 0, role, snd_settle_mode, rcv_settle_mode, source, target, 0);
+    int32_t status = amqp1_write_attach_of(attach, sizeof attach, &length, name, 0, role, 2, AMQP1_FIRST, source,
+                                           target, 0);
     if (status == AMQP1_DONE)
         status = amqp1_link_attach(place, session, attach, length, attach, 0, low, high, link);
     if (status != AMQP1_NO_LINK)
         return status;
-    status = amqp1_link(place, session, role, rcv_settle_mode, name, link);
-    return status == AMQP1_DONE ? amqp1_link_attach(place, session, attach, length, attach, 0, low, high, link) : status;
+    status = amqp1_link(place, session, role, AMQP1_FIRST, name, link);
+    if (status == AMQP1_DONE)
+        status = amqp1_link_attach(place, session, attach, length, attach, 0, low, high, link);
+    return status;
 }
 
-/* A sender to an address in a session that has begun: its deliveries are settled one by one, as each says (snd-settle-mode mixed, section 2.8.2). The
-   handle goes to `link`. TOO_SMALL: name and address do not fit AMQP1_ON_STACK; REFUSED by the name that amqp1_link has; and as of amqp1_link_attach.
-   Where memory is refused ask again. */
+/* A sender to a target in a session that has begun, as to a durable one: its deliveries are settled one by one, as each
+   says (snd-settle-mode mixed, section 2.8.2). Its source has its name for an address. The handle goes to `link`.
+   BAD_ARGUMENT: the target has no form. TOO_SMALL: the texts do not fit AMQP1_ON_STACK; REFUSED by the name that
+   amqp1_link has; and as of amqp1_link_attach. Where memory is refused ask again. */
+AMQP1_FUNCTION int32_t amqp1_sender_to(amqp1 *place, uint32_t session, const char *name, const amqp1_terminus *target,
+                                       uint32_t *link)
+{
+    amqp1_terminus source = amqp1_terminus_at(name);
+    return amqp1_link_to(place, session, name, AMQP1_SENDER, &source, target, 0, 0, link);
+}
+
+/* The same to an address. */
 AMQP1_FUNCTION int32_t amqp1_sender(amqp1 *place, uint32_t session, const char *name, const char *address, uint32_t *link)
 {
-    return amqp1_link_to(place, session, name, AMQP1_SENDER, 2, AMQP1_FIRST, name, address, 0, 0, link);
+    amqp1_terminus target = amqp1_terminus_at(address);
+    return amqp1_sender_to(place, session, name, &target, link);
 }
 
-/* A receiver from an address in a session that has begun. Where fewer than half of `high` are left, at least 1, it renews its credit up to `high`; none by
-   itself where that is 0. Answers as amqp1_sender. */
+/* A receiver from a source in a session that has begun, as from one whose node keeps its messages. Where fewer than half
+   of `high` are left, at least 1, it renews its credit up to `high`; none by itself where that is 0. Answers as
+   amqp1_sender_to. */
+AMQP1_FUNCTION int32_t amqp1_receiver_from(amqp1 *place, uint32_t session, const char *name,
+                                           const amqp1_terminus *source, uint32_t high, uint32_t *link)
+{
+    amqp1_terminus target = amqp1_terminus_at(name);
+    return amqp1_link_to(place, session, name, AMQP1_RECEIVER, source, &target, high - high / 2, high, link);
+}
+
+/* The same from an address. */
 AMQP1_FUNCTION int32_t amqp1_receiver(amqp1 *place, uint32_t session, const char *name, const char *address, uint32_t high, uint32_t *link)
 {
-    return amqp1_link_to(place, session, name, AMQP1_RECEIVER, 2, AMQP1_FIRST, address, name, high - high / 2, high, link);
+    amqp1_terminus source = amqp1_terminus_at(address);
+    return amqp1_receiver_from(place, session, name, &source, high, link);
 }
 
 /* A receiver grants so much credit, whatever it granted before; see amqp1_link_flow. Where this is less than before, deliveries that are on the way may

@@ -104,6 +104,15 @@ class basic_engine : public basic_connection<Errors>
         return give_of("amqp1_sender", status, it);
     }
 
+    // The same to a target, as to a durable one.
+    [[nodiscard]] given<amqp::sender> sender(std::uint32_t session, cstring name,
+                                             const terminus &target) noexcept(is_quiet)
+    {
+        amqp::sender it = {{session, AMQP1_NONE}};
+        std::int32_t status = amqp1_sender_to(&place_, session, name.c_str(), &target, &it.handle);
+        return give_of("amqp1_sender_to", status, it);
+    }
+
     // A receiver from an address, which renews its credit up to `high`, or none by itself where that is 0.
     given<amqp::receiver> receiver(std::uint32_t session, cstring name, cstring address,
                                    std::uint32_t high) noexcept(is_quiet)
@@ -111,6 +120,15 @@ class basic_engine : public basic_connection<Errors>
         amqp::receiver it = {{session, AMQP1_NONE}};
         std::int32_t status = amqp1_receiver(&place_, session, name.c_str(), address.c_str(), high, &it.handle);
         return give_of("amqp1_receiver", status, it);
+    }
+
+    // The same from a source, as from one whose node keeps its messages.
+    given<amqp::receiver> receiver(std::uint32_t session, cstring name, const terminus &source,
+                                   std::uint32_t high) noexcept(is_quiet)
+    {
+        amqp::receiver it = {{session, AMQP1_NONE}};
+        std::int32_t status = amqp1_receiver_from(&place_, session, name.c_str(), &source, high, &it.handle);
+        return give_of("amqp1_receiver_from", status, it);
     }
 
     // Attaches a link by PERF of an Attach, to whose name a handle is allotted, or to `name`, where it is there. A

@@ -119,6 +119,11 @@ struct plain {
     bytes authorization, user, password;
 };
 
+// A source or a target: its fields are those of amqp1_terminus. Its texts live as long as it does.
+struct terminus : amqp1_terminus {
+    explicit terminus(cstring at) noexcept : amqp1_terminus(amqp1_terminus_at(at.c_str())) {}
+};
+
 // What one header, SASL frame or frame says: its fields are those of amqp1_record. `came` is what `take` was given for
 // it.
 struct record : amqp1_record {

@@ -222,43 +222,6 @@ AMQP1_FUNCTION AMQP1_CHECKED int32_t amqp1_write_begin(uint8_t *out, size_t room
     return amqp1_written(&text, written);
 }
 
-/* A source (28) or target (29) with an address, or with none where it is NULL. */
-AMQP1_FUNCTION void amqp1_put_terminus(amqp1_text *text, unsigned descriptor, const char *address)
-{
-    size_t list = amqp1_begin_list(text, descriptor, 1);
-    amqp1_put_string(text, address);
-    amqp1_end_list(text, list);
-}
-
-/* An Attach on an output handle: the link's name, this side's end of it, how deliveries are settled (sender: 0
-   unsettled, 1 settled, 2 mixed), and the addresses of source and target, each NULL for a terminus without one.
-   `initial_delivery_count` is a sender's. DONE or TOO_SMALL; BAD_ARGUMENT where the name is NULL, and of a role or a
-   mode that is none. */
-AMQP1_FUNCTION AMQP1_CHECKED int32_t amqp1_write_attach(uint8_t *out, size_t room, size_t *written, const char *name,
-                                                        uint32_t handle, enum amqp1_role role, unsigned snd_settle_mode,
-                                                        enum amqp1_rcv_settle_mode rcv_settle_mode, const char *source,
-                                                        const char *target, uint32_t initial_delivery_count)
-{
-    amqp1_text text = amqp1_text_at(out, room);
-    size_t list = amqp1_begin_list(&text, 0x12, role == AMQP1_SENDER ? 10 : 7);
-    text.is_bad = !name || (unsigned)role > (unsigned)AMQP1_RECEIVER || snd_settle_mode > 2 ||
-                  (unsigned)rcv_settle_mode > (unsigned)AMQP1_SECOND;
-    amqp1_put_string(&text, name);
-    amqp1_put_uint(&text, handle);
-    amqp1_put_boolean(&text, role == AMQP1_RECEIVER);
-    amqp1_put_ubyte(&text, snd_settle_mode);
-    amqp1_put_ubyte(&text, rcv_settle_mode);
-    amqp1_put_terminus(&text, 0x28, source);
-    amqp1_put_terminus(&text, 0x29, target);
-    if (role == AMQP1_SENDER) {
-        amqp1_put_null(&text);
-        amqp1_put_null(&text);
-        amqp1_put_uint(&text, initial_delivery_count);
-    }
-    amqp1_end_list(&text, list);
-    return amqp1_written(&text, written);
-}
-
 /* A Flow of a link on an output handle: its delivery count (NULL where a receiver does not know it yet), its credit,
    whether the sender is to use it up (`drain`), and whether a flow is wanted in answer (`echo`). The numbers of the
    session are the engine's. DONE or TOO_SMALL. */

@@ -63,13 +63,21 @@ struct terms {
 };
 
 template <std::size_t Room = AMQP1_ON_STACK>
+text<Room> write_attach(cstring name, std::uint32_t handle, amqp1_role role, const terminus &source,
+                        const terminus &target, terms by = {}) noexcept
+{
+    return text<Room>([&](std::uint8_t *out, std::size_t room, std::size_t *length) {
+        return amqp1_write_attach_of(out, room, length, name.c_str(), handle, role, by.snd_settle_mode,
+                                     by.rcv_settle_mode, &source, &target, by.initial_delivery_count);
+    });
+}
+
+// The same by addresses, each null for a terminus without one.
+template <std::size_t Room = AMQP1_ON_STACK>
 text<Room> write_attach(cstring name, std::uint32_t handle, amqp1_role role, cstring source, cstring target,
                         terms by = {}) noexcept
 {
-    return text<Room>([&](std::uint8_t *out, std::size_t room, std::size_t *length) {
-        return amqp1_write_attach(out, room, length, name.c_str(), handle, role, by.snd_settle_mode, by.rcv_settle_mode,
-                                  source.c_str(), target.c_str(), by.initial_delivery_count);
-    });
+    return write_attach<Room>(name, handle, role, terminus(source), terminus(target), by);
 }
 
 template <std::size_t Room = 64>

@@ -18,7 +18,7 @@ sys.path.insert(0, str(Path(__file__).resolve().parents[2] / "bindings" / "pytho
 
 from shared.command import command
 
-GROUPS = ("values", "logins", "streams", "frames", "brokers", "clients", "floods", "streams_by_chance")
+GROUPS = ("values", "logins", "streams", "frames", "brokers", "clients", "floods", "streams_by_chance", "clients_by_chance")
 
 
 async def tried(it, turns, longest=60):

@@ -152,6 +152,32 @@ static void try_attaching(void)
     part();
 }
 
+/* A target that is durable, and a source whose node keeps its messages; and one that has no form, or is too long. */
+static void try_termini(void)
+{
+    amqp1_terminus to = amqp1_terminus_at("q"), from = to;
+    char address[1200];
+    uint32_t link = 99;
+    memset(address, 'a', sizeof address - 1);
+    address[sizeof address - 1] = 0;
+    to.durable = AMQP1_DURABLE_UNSETTLED;
+    from.distribution_mode = "copy";
+    meet();
+    CHECK(amqp1_sender_to(&client.engine, CLIENTS, "out", &to, &link) == AMQP1_DONE && link == 0);
+    CHECK(sends(&client.engine, "[02000000 005312 c0(0a a1(6f7574) 43 42 40 40 005328 d0 00000009 00000001 a1(6f7574)"
+                                "005329 d0 0000000c 00000002 a1(71) 7000000002 40 40 43)]"));
+    CHECK(amqp1_receiver_from(&client.engine, CLIENTS, "in", &from, 5, &link) == AMQP1_DONE && link == 1);
+    CHECK(sends(&client.engine, "[02000000 005312 c0(07 a1(696e) 5201 41 40 40"
+                                "005328 d0 0000001a 00000007 a1(71) 7000000000 40 7000000000 42 40 a3(636f7079)"
+                                "005329 d0 00000008 00000001 a1(696e))]"));
+    to.durable = 3;
+    CHECK(amqp1_sender_to(&client.engine, CLIENTS, "bad", &to, &link) == AMQP1_BAD_ARGUMENT);
+    from.address = address;
+    CHECK(amqp1_receiver_from(&client.engine, CLIENTS, "long", &from, 5, &link) == AMQP1_TOO_SMALL && link == 1);
+    CHECK(sends(&client.engine, ""));
+    part();
+}
+
 /* What attaches answers where it does not attach. */
 static void try_refused_attaches(void)
 {
@@ -246,6 +272,7 @@ void try_endings(void)
     try_refused_link();
     try_crossing();
     try_attaching();
+    try_termini();
     try_refused_attaches();
     try_nothing();
     try_refused_sends_on_links();

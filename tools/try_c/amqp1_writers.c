@@ -26,6 +26,30 @@ WRITER(write_open_long, amqp1_write_open(OUT, THREE_HUNDRED("n"), NULL, 512, 1, 
 WRITER(write_begin, amqp1_write_begin(OUT, 1, 64, 65, 255))
 WRITER(write_attach_sender, amqp1_write_attach(OUT, "name", 3, AMQP1_SENDER, 1, AMQP1_SECOND, "from", "to", 9))
 WRITER(write_attach_receiver, amqp1_write_attach(OUT, "in", 70000, AMQP1_RECEIVER, 2, AMQP1_FIRST, NULL, NULL, 9))
+
+/* An Attach of a sender or of a receiver between these termini. */
+static int32_t write_between(uint8_t *out, size_t room, size_t *written, enum amqp1_role role,
+                             const amqp1_terminus *source, const amqp1_terminus *target)
+{
+    return amqp1_write_attach_of(out, room, written, "n", 3, role, 1, AMQP1_SECOND, source, target, 9);
+}
+
+static const amqp1_terminus durable = { "q", 2, 0, NULL, NULL, NULL, 0 };
+static const amqp1_terminus durable_3 = { "q", 3, 0, NULL, NULL, NULL, 0 };
+static const amqp1_terminus expires = { NULL, 0, 0, "never", NULL, NULL, 0 };
+static const amqp1_terminus kept = { "q", 0, 70, NULL, NULL, NULL, 0 };
+static const amqp1_terminus dynamic = { NULL, 0, 0, NULL, NULL, NULL, 1 };
+static const amqp1_terminus copied = { "q", 0, 0, NULL, "copy", NULL, 0 };
+static const amqp1_terminus topic = { "q", 1, 0, NULL, NULL, "topic", 0 };
+static const amqp1_terminus all_of_it = { "q", 1, 5, "never", "move", "queue", 1 };
+
+WRITER(write_no_termini, write_between(OUT, AMQP1_RECEIVER, NULL, NULL))
+WRITER(write_durable, write_between(OUT, AMQP1_RECEIVER, NULL, &durable))
+WRITER(write_expires, write_between(OUT, AMQP1_RECEIVER, &expires, NULL))
+WRITER(write_kept, write_between(OUT, AMQP1_RECEIVER, &kept, &dynamic))
+WRITER(write_copied, write_between(OUT, AMQP1_RECEIVER, &copied, NULL))
+WRITER(write_topics, write_between(OUT, AMQP1_SENDER, &topic, &topic))
+WRITER(write_all_of_it, write_between(OUT, AMQP1_RECEIVER, &all_of_it, NULL))
 WRITER(write_flow, amqp1_write_flow(OUT, 3, &nine, 100, 1, 0))
 WRITER(write_flow_uncounted, amqp1_write_flow(OUT, 3, NULL, 100, 0, 1))
 WRITER(write_transfer, amqp1_write_transfer(OUT, 3, "tag", 3, 7, 1, 0))
@@ -61,6 +85,23 @@ static const struct row {
                            "40 40 7000000009" },
     { write_attach_receiver, "005312 d0 0000002c 00000007 a1(696e) 7000011170 41 5002 5000"
                              "005328 d0 00000005 00000001 40 005329 d0 00000005 00000001 40" },
+    { write_no_termini, "005312 d0 00000013 00000007 a1(6e) 7000000003 41 5001 5001 40 40" },
+    { write_durable, "005312 d0 00000026 00000007 a1(6e) 7000000003 41 5001 5001 40"
+                     "005329 d0 0000000c 00000002 a1(71) 7000000002" },
+    { write_expires, "005312 d0 0000002b 00000007 a1(6e) 7000000003 41 5001 5001"
+                     "005328 d0 00000011 00000003 40 7000000000 a3(6e65766572) 40" },
+    { write_kept, "005312 d0 00000044 00000007 a1(6e) 7000000003 41 5001 5001"
+                  "005328 d0 00000012 00000004 a1(71) 7000000000 40 7000000046"
+                  "005329 d0 00000011 00000005 40 7000000000 40 7000000000 41" },
+    { write_copied, "005312 d0 00000034 00000007 a1(6e) 7000000003 41 5001 5001"
+                    "005328 d0 0000001a 00000007 a1(71) 7000000000 40 7000000000 42 40 a3(636f7079) 40" },
+    { write_topics, "005312 d0 00000062 0000000a a1(6e) 7000000003 42 5001 5001"
+                    "005328 d0 0000001f 0000000b a1(71) 7000000001 40 7000000000 42 40 40 40 40 40 a3(746f706963)"
+                    "005329 d0 0000001b 00000007 a1(71) 7000000001 40 7000000000 42 40 a3(746f706963)"
+                    "40 40 7000000009" },
+    { write_all_of_it, "005312 d0 00000044 00000007 a1(6e) 7000000003 41 5001 5001"
+                       "005328 d0 0000002a 0000000b a1(71) 7000000001 a3(6e65766572) 7000000005 41 40 a3(6d6f7665)"
+                       "40 40 40 a3(7175657565) 40" },
     { write_flow, "005313 d0 00000026 0000000a 40 7000000000 7000000000 7000000000 7000000003"
                   "7000000009 7000000064 40 41 42" },
     { write_flow_uncounted, "005313 d0 00000022 0000000a 40 7000000000 7000000000 7000000000 7000000003"
@@ -116,6 +157,8 @@ WRITER(write_open_none, amqp1_write_open(OUT, NULL, "host", 512, 1, 0))
 WRITER(write_attach_none, amqp1_write_attach(OUT, NULL, 3, AMQP1_SENDER, 1, AMQP1_FIRST, "from", "to", 9))
 WRITER(write_attach_mode, amqp1_write_attach(OUT, "name", 3, AMQP1_SENDER, 3, AMQP1_FIRST, "from", "to", 9))
 WRITER(write_attach_mode_257, amqp1_write_attach(OUT, "name", 3, AMQP1_SENDER, 257, AMQP1_FIRST, "from", "to", 9))
+WRITER(write_durable_3, write_between(OUT, AMQP1_SENDER, &durable, &durable_3))
+WRITER(write_target_copied, write_between(OUT, AMQP1_SENDER, &copied, &copied))
 WRITER(write_received, amqp1_write_disposition(OUT, AMQP1_RECEIVER, 2, 3, 1, AMQP1_RECEIVED))
 WRITER(write_other_state, amqp1_write_disposition(OUT, AMQP1_RECEIVER, 2, 3, 1, AMQP1_OTHER_STATE))
 WRITER(write_detach_none, amqp1_write_detach(OUT, 3, 1, NULL, "bar"))
@@ -137,6 +180,8 @@ static const struct row bad_rows[] = {
     { write_attach_none, "an Attach without a name" },
     { write_attach_mode, "a mode that is none" },
     { write_attach_mode_257, "a mode past a byte" },
+    { write_durable_3, "a durability that is none" },
+    { write_target_copied, "a target with a distribution-mode" },
     { write_received, "the state RECEIVED" },
     { write_other_state, "another state" },
     { write_detach_none, "a description without a condition" },

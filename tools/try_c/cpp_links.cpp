@@ -53,6 +53,26 @@ void try_sender()
     CHECK(!found(both.client.link_settled_of(came.at(1).event)));
 }
 
+// Links between termini that say more than an address.
+template <class Engine>
+void try_termini()
+{
+    faces<Engine> both;
+    amqp::terminus to("q"), from("q");
+    to.durable = AMQP1_DURABLE_CONFIGURATION;
+    from.distribution_mode = "copy";
+    CHECK((got(both.client.sender(here, "l", to)) == amqp::link{here, 0}));
+    heard wanted = both.go().at(0);
+    auto target = *amqp::field(wanted.record.performative(wanted.came), AMQP1_ATTACH_TARGET);
+    CHECK(amqp::bytes_field(target, AMQP1_TERMINUS_ADDRESS).text() == "q" && amqp::number_field(target, 1) == 1);
+    CHECK((got(both.client.receiver(here, "m", from, 0)) == amqp::link{here, 1}));
+    wanted = both.go().at(0);
+    auto source = *amqp::field(wanted.record.performative(wanted.came), AMQP1_ATTACH_SOURCE);
+    CHECK(amqp::bytes_field(source, AMQP1_TERMINUS_ADDRESS).text() == "q" && amqp::bytes_field(source, 6).text() == "copy");
+    to.durable = 3;
+    CHECK(STATUS(both.client.sender(here, "n", to)) == AMQP1_BAD_ARGUMENT);
+}
+
 template <class Engine>
 void try_receiver()
 {
@@ -234,6 +254,7 @@ template <class Engine>
 void try_links()
 {
     try_sender<Engine>();
+    try_termini<Engine>();
     try_receiver<Engine>();
     try_ends<Engine>();
     try_frames<Engine>();

@@ -57,6 +57,13 @@ void try_readers()
               ->descriptor == 0x24);
     CHECK(amqp::boolean_field(amqp::write_detach(1, true), AMQP1_DETACH_CLOSED) &&
           amqp::number_field(amqp::write_attach("l", 8, AMQP1_SENDER, "a", "b"), 1) == 8);
+    amqp::terminus durable("q");
+    durable.durable = AMQP1_DURABLE_UNSETTLED;
+    auto attach = amqp::write_attach("l", 8, AMQP1_SENDER, amqp::terminus("l"), durable, {0, AMQP1_SECOND, 4});
+    CHECK(amqp::bytes_field(*amqp::field(attach, AMQP1_ATTACH_TARGET), AMQP1_TERMINUS_ADDRESS).text() == "q" &&
+          amqp::number_field(*amqp::field(attach, AMQP1_ATTACH_TARGET), 1) == 2);
+    CHECK(!amqp::field(*amqp::field(attach, AMQP1_ATTACH_SOURCE), 1) &&
+          amqp::number_field(attach, AMQP1_ATTACH_INITIAL_DELIVERY_COUNT) == 4);
 }
 
 void try_messages()

@@ -12,6 +12,7 @@ from amqp_engine import (
 )  # fmt: skip
 from amqp_engine.values import Symbol, read
 from hostile.peers import LARGE, Raw, frame
+from try_c.heap import taken
 
 TESTS = []
 WAITS = Waits(login=5.0, answer=2.0, closing=0.5)
@@ -161,6 +162,33 @@ async def a_delivery_of_parts_is_one_and_an_aborted_one_is_none():
         peer.send(transfer(1, b"gone", more=True), frame(Transfer(0, aborted=True)), transfer(2, data(b"last")))
         assert [(await next_of(peer, Disposition)).first for _ in range(2)] == [0, 2]
         assert seen == [b"abcdef", data(b"last"), b"last"] and await served.ends() is None
+
+
+@test
+async def of_a_delivery_that_a_later_part_ends_nothing_stays():
+    count, seen = 5000, []
+
+    async def handle(connection):
+        async for link in connection.links():
+            link.accept(credit=count)
+            async for delivery in link:
+                seen.append(delivery.is_settled)
+
+    async with Served(handle) as served:
+        peer = served.peer
+        # of what it settles second the session has a record
+        peer.send(sends(rcv_settle_mode=SECOND))
+        await next_of(peer, Flow)
+        before = taken()
+        for at in range(count):
+            ends = {"aborted": True} if at % 2 else {"settled": True}
+            peer.send(transfer(at, b"", more=True), frame(Transfer(0, **ends)))
+        await peer.drain()
+        while len(seen) < count // 2:
+            await asyncio.sleep(0.01)
+        # which has some 120 bytes
+        assert all(seen) and taken() - before < 40 * count, taken() - before
+        assert await served.ends() is None
 
 
 @test

@@ -74,7 +74,7 @@ class Link:
         receives."""
         return address_of(self.attach.target if self.attach.role == SENDER else self.attach.source)
 
-    def _attach(self, low: int, high: int, most: Optional[int], has_terminus: bool = True, **how: Any) -> LinkEvent:
+    def _attach(self, most: Optional[int], has_terminus: bool = True, **how: Any) -> LinkEvent:
         theirs = self.attach
         given = {
             "source": theirs.source, "target": theirs.target, "snd_settle_mode": theirs.snd_settle_mode,
@@ -86,7 +86,7 @@ class Link:
         mine = Attach(self.name, self.handle, not theirs.role, **given)
         if self._wanted is None:
             raise RuntimeError("a link is answered once")
-        event = self.connection.links_of.link_attach(self._wanted, mine, low, high)
+        event = self.connection.links_of.link_attach(self._wanted, mine)
         self.is_answered, self._wanted = True, None
         self.connection.answered.set()
         return event
@@ -94,7 +94,7 @@ class Link:
     def refuse(self, condition: str, description: Optional[str] = None) -> None:
         """The link is refused: an Attach without the terminus, and a Detach that says why (AMQP 1.0 part 2, section
         2.6.3)."""
-        self._attach(0, 0, None, False)
+        self._attach(None, False)
         self.detach(Error(condition, description))
 
     def detach(self, error: Optional[Error] = None, closed: bool = True) -> None:

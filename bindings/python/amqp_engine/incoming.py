@@ -10,7 +10,7 @@ from .driver import FORMATTED, TAGGED, LinkEvent, Record
 from .ends import Link, LinkHandler
 from .handed import IncomingDelivery, OutgoingDelivery
 from .linking import (
-    EVENT_ABORTED, EVENT_FIRST, EVENT_FLOW, EVENT_GIVEN, EVENT_LAST, EVENT_PART, EVENT_PRESETTLED, WISH_RENEW,
+    EVENT_ABORTED, EVENT_FIRST, EVENT_FLOW, EVENT_GIVEN, EVENT_LAST, EVENT_PART, EVENT_PRESETTLED, WISH_GRANT,
 )  # fmt: skip
 from .performatives import FIRST, RECEIVER, SECOND, Disposition, Error
 from .serving import OfLink, Wanted
@@ -35,7 +35,8 @@ class IncomingLink(Link):
         self._coming: Optional[IncomingDelivery] = None
         self._open: Dict[int, IncomingDelivery] = {}
         self._parts: List[bytes] = []
-        self._size = self._most_waiting = 0
+        # of the part that is coming, its bytes; and up to how much credit is given
+        self._size = self._most = 0
         self._iterates = True
         # what the program has not taken; and who waits for more
         self._waiting: Optional[Deque[IncomingDelivery]] = None
@@ -54,15 +55,16 @@ class IncomingLink(Link):
             self.settles = settles
             how["rcv_settle_mode"] = FIRST if settles else SECOND
         self._handler = handler or self._handler
-        self._iterates, self._most_waiting = handler is None, credit // 2
-        self._attach(credit - credit // 2, credit, max_message_size, **how)
+        self._iterates, self._most = handler is None, credit
+        # the library renews nothing by itself: the program has to take what came
+        self._attach(max_message_size, **how)
         if self._iterates:
             self.renew()
 
     def renew(self) -> None:
         """Gives the client credit up to that of `accept`, where less than half of it is left."""
-        if not self.is_over:
-            self.connection.ask(self._engine.link_flow, self.session.number, self.handle, WISH_RENEW)
+        if self.credit < self._most - self._most // 2 and not self.is_over:
+            self.connection.ask(self._engine.link_flow, self.session.number, self.handle, WISH_GRANT, self._most)
 
     @property
     def credit(self) -> int:
@@ -85,7 +87,7 @@ class IncomingLink(Link):
                 self._waits = None
         delivery = self._waiting.popleft()
         self.connection.takes(-len(delivery.payload))
-        if len(self._waiting) <= self._most_waiting:
+        if len(self._waiting) <= self._most // 2:
             self.renew()
         return delivery
 
@@ -138,8 +140,8 @@ class IncomingLink(Link):
         delivery, payload = self._coming, b"".join(self._parts)
         self._forget_parts()
         if event.flags & EVENT_GIVEN:
-            # a later part settled it, or aborted it: the session has a record of it still
-            self.session.lets_go(RECEIVER, event.first)
+            # a later part settled it, or aborted it: the session's own record of it goes
+            self.session.owe(event)
         if delivery is None or event.flags & EVENT_ABORTED:
             return
         delivery.payload, delivery.is_settled = payload, bool(event.flags & EVENT_PRESETTLED)

@@ -293,10 +293,6 @@ class Line:
             pass
         self.wire.ask()
 
-    def forget_received(self, session: Session, number: int) -> None:
-        """The session's own record of a delivery goes that was aborted, or settled by a later part."""
-        self._ask(lambda: self.driver.settle(session.number, RECEIVER, number))
-
     def settle_now(self, session: Session) -> None:
         """What was settled so far goes out before what is asked next."""
         if session.number in self._runs:

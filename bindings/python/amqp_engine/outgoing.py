@@ -47,7 +47,7 @@ class OutgoingLink(Link):
         """The link is accepted. A `handler` is told of credit and of what is settled. `how` are other fields of the
         Attach."""
         self._handler = handler or _SENDS
-        self._attach(0, 0, max_message_size, **how)
+        self._attach(max_message_size, **how)
 
     @property
     def credit(self) -> int:

@@ -242,8 +242,9 @@ class Receiver(Link):
     def _take_part(self, line: Line, record: Record, event: LinkEvent, data: bytes) -> None:
         payload = data[record.payload_at : record.payload_at + record.payload]
         self._unused = event.credit
-        if event.flags & EVENT_GIVEN and self._session is not None:
-            line.forget_received(self._session, event.first)
+        if event.flags & EVENT_GIVEN:
+            # aborted, or settled by a later part: the session's own record of it goes
+            line.driver.link_respond(event)
         if event.flags & (EVENT_FIRST | EVENT_ABORTED):
             self._parts.clear()
         if event.flags & EVENT_ABORTED:

@@ -6,13 +6,13 @@ import contextlib
 from dataclasses import dataclass
 from typing import TYPE_CHECKING, Dict, Optional
 
-from .driver import NUMBERED, TRANSFER, LinkEvent
+from .driver import LinkEvent
 from .ends import Link
 from .events import Refusal
 from .incoming import IncomingLink
-from .linking import EVENT_BY_PEER, EVENT_RECEIVED, EVENT_SETTLED
+from .linking import EVENT_BY_PEER, EVENT_PASSED_OVER, EVENT_RECEIVED, EVENT_SETTLED
 from .outgoing import OutgoingLink
-from .performatives import RECEIVER, Begin, Error
+from .performatives import Begin, Error
 from .serving import OfLink
 
 if TYPE_CHECKING:
@@ -98,11 +98,6 @@ class ServedSession:
         for _ in self._engine.link_settled(self.number, role, number, number):
             pass
 
-    def lets_go(self, role: bool, number: int) -> None:
-        """A delivery of which no link knows is let go."""
-        with contextlib.suppress(Refusal):
-            self._engine.settle(self.number, role, number)
-
     def owe(self, event: LinkEvent, available: int = 0) -> None:
         """What a link owes is sent, or is due later."""
         self.connection.ask(self._engine.link_respond, event, available)
@@ -129,14 +124,14 @@ class ServedSession:
 
     def hear(self, told: OfLink) -> None:
         """What came for its links."""
-        event, record, link = told.event, told.record, self.links.get(told.event.link)
+        event, link = told.event, self.links.get(told.event.link)
         if event.kind == EVENT_SETTLED:
             self._settled(told)
+        elif event.kind == EVENT_PASSED_OVER:
+            # it was on its way when the link was detached: the session lets its record go
+            self.owe(event)
         elif link is not None:
             link.hear(told)
-        if record.kind == TRANSFER and record.flags & NUMBERED and (link is None or link.is_over):
-            # it was on its way when the link was detached
-            self.lets_go(RECEIVER, record.first)
         while (due := self._engine.link_due(self.number)) is not None:
             if (link := self.links.get(due.link)) is not None:
                 link.due(due)

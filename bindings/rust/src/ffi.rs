@@ -53,6 +53,18 @@ pub(crate) struct Told {
     pub(crate) reserved: u32,
 }
 
+/// A source or a target.
+#[repr(C)]
+pub(crate) struct Ends {
+    pub(crate) address: *const c_char,
+    pub(crate) durable: u32,
+    pub(crate) timeout: u32,
+    pub(crate) expiry_policy: *const c_char,
+    pub(crate) distribution_mode: *const c_char,
+    pub(crate) capability: *const c_char,
+    pub(crate) is_dynamic: c_int,
+}
+
 /// Some bytes, as the readers of the library have them.
 #[repr(C)]
 #[derive(Clone, Copy)]
@@ -76,6 +88,7 @@ const _: () = {
     assert!(size_of::<Took>() == 24 && size_of::<Ticked>() == 16 && size_of::<Went>() == 16);
     assert!(size_of::<Record>() == 96 && size_of::<TransferHead>() == 20 && size_of::<Sent>() == 8);
     assert!(size_of::<Cut>() == 48 && size_of::<Told>() == 24 && size_of::<Unsettled>() == 16);
+    assert!(size_of::<Ends>() == 48 && offset_of!(Ends, expiry_policy) == 16 && offset_of!(Ends, is_dynamic) == 40);
     assert!(size_of::<Event>() == 48 && offset_of!(Event, kind) == 20 && offset_of!(Event, flags) == 44);
 };
 
@@ -218,7 +231,7 @@ unsafe extern "C" {
         outgoing_window: u32,
         handle_max: u32,
     ) -> i32;
-    pub(crate) fn amqp1_write_attach(
+    pub(crate) fn amqp1_write_attach_of(
         out: *mut u8,
         room: usize,
         written: *mut usize,
@@ -227,8 +240,8 @@ unsafe extern "C" {
         role: c_uint,
         snd_settle_mode: c_uint,
         rcv_settle_mode: c_uint,
-        source: *const c_char,
-        target: *const c_char,
+        source: *const Ends,
+        target: *const Ends,
         initial_delivery_count: u32,
     ) -> i32;
     pub(crate) fn amqp1_write_flow(

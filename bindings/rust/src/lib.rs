@@ -51,6 +51,7 @@ extern crate std;
 #[cfg(feature = "std")]
 mod alone;
 mod answering;
+mod attaching;
 mod browsing;
 mod came;
 #[cfg(feature = "std")]
@@ -77,6 +78,7 @@ mod transport;
 #[cfg(feature = "std")]
 pub use alone::{Alone, Stream, Timed};
 pub use answering::answers;
+pub use attaching::{Attach, Between, Durability, Terminus};
 pub use browsing::Browser;
 pub use came::{Came, Delivered, FlowOf, Terms};
 #[cfg(feature = "std")]
@@ -87,7 +89,7 @@ pub use events::{Event, EventKind, Fault, Life, LinkEnd, Part};
 pub use links::{NotSent, Told, Unsettled, Wish};
 pub use message::{Message, Properties};
 pub use opening::{Due, Login, LoginCode, Opening, Tick};
-pub use performatives::{Attach, Begin, Condition, Detach, Disposition, Flow, Open, Performative, Transfer};
+pub use performatives::{Begin, Condition, Detach, Disposition, Flow, Open, Performative, Transfer};
 pub use reading::Fields;
 pub use records::{
     Cut, NONE, Outcome, ReceiverSettleMode, Record, Role, SenderSettleMode, Sent, Stop, TransferHead, flag, kind,

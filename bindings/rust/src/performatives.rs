@@ -7,7 +7,7 @@ use core::ffi::c_char;
 use core::ptr::null;
 
 use crate::ffi::*;
-use crate::{Error, Outcome, ReceiverSettleMode, Role, SenderSettleMode};
+use crate::{Error, Outcome, Role};
 
 /// What is a performative or an error in bytes.
 ///
@@ -52,7 +52,7 @@ impl<P: Performative + ?Sized> Performative for &P {
 }
 
 /// Has a writer of the library write, in as much room as it needs.
-fn written(out: &mut Vec<u8>, writer: impl Fn(*mut u8, usize, *mut usize) -> i32) -> Result<(), Error> {
+pub(crate) fn written(out: &mut Vec<u8>, writer: impl Fn(*mut u8, usize, *mut usize) -> i32) -> Result<(), Error> {
     let (at, mut room) = (out.len(), 128);
     loop {
         let mut length = 0;
@@ -73,14 +73,14 @@ fn written(out: &mut Vec<u8>, writer: impl Fn(*mut u8, usize, *mut usize) -> i32
 }
 
 /// A text as C has it, or none.
-struct Text(Option<CString>);
+pub(crate) struct Text(Option<CString>);
 
 impl Text {
-    fn of<'a>(text: impl Into<Option<&'a str>>) -> Result<Text, Error> {
+    pub(crate) fn of<'a>(text: impl Into<Option<&'a str>>) -> Result<Text, Error> {
         text.into().map(CString::new).transpose().map(Text).map_err(|_| Error::BadArgument)
     }
 
-    fn at(&self) -> *const c_char {
+    pub(crate) fn at(&self) -> *const c_char {
         self.0.as_ref().map_or(null(), |it| it.as_ptr())
     }
 }
@@ -155,67 +155,6 @@ impl Performative for Begin {
                 self.incoming_window,
                 self.outgoing_window,
                 self.handle_max,
-            )
-        })
-    }
-}
-
-/// An Attach (section 2.7.3).
-#[derive(Clone, Copy, Debug)]
-pub struct Attach<'a> {
-    /// The link's name.
-    pub name: &'a str,
-    /// This side's handle. [`Engine::link_attach`](crate::Engine::link_attach) takes no notice of it.
-    pub handle: u32,
-    /// This side's end of the link.
-    pub role: Role,
-    /// How the sender settles.
-    pub snd_settle_mode: SenderSettleMode,
-    /// How the receiver settles.
-    pub rcv_settle_mode: ReceiverSettleMode,
-    /// The address of the source, if it has one.
-    pub source: Option<&'a str>,
-    /// The address of the target, if it has one.
-    pub target: Option<&'a str>,
-    /// A sender's first delivery count.
-    pub initial_delivery_count: u32,
-}
-
-impl<'a> Attach<'a> {
-    /// Of a sender to this address.
-    pub fn sender(name: &'a str, address: &'a str) -> Attach<'a> {
-        Attach::of(name, Role::Sender, Some(name), Some(address))
-    }
-
-    /// Of a receiver from this address.
-    pub fn receiver(name: &'a str, address: &'a str) -> Attach<'a> {
-        Attach::of(name, Role::Receiver, Some(address), Some(name))
-    }
-
-    fn of(name: &'a str, role: Role, source: Option<&'a str>, target: Option<&'a str>) -> Attach<'a> {
-        let (snd_settle_mode, rcv_settle_mode) = (SenderSettleMode::Mixed, ReceiverSettleMode::First);
-        Attach { name, handle: 0, role, snd_settle_mode, rcv_settle_mode, source, target, initial_delivery_count: 0 }
-    }
-}
-
-impl Performative for Attach<'_> {
-    fn write(&self, out: &mut Vec<u8>) -> Result<(), Error> {
-        let (name, source, target) = (Text::of(self.name)?, Text::of(self.source)?, Text::of(self.target)?);
-        let (role, snd, rcv) = (self.role as u32, self.snd_settle_mode as u32, self.rcv_settle_mode as u32);
-        written(out, |at, room, length| unsafe {
-            let count = self.initial_delivery_count;
-            amqp1_write_attach(
-                at,
-                room,
-                length,
-                name.at(),
-                self.handle,
-                role,
-                snd,
-                rcv,
-                source.at(),
-                target.at(),
-                count,
             )
         })
     }

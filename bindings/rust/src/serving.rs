@@ -111,14 +111,7 @@ impl<S: Stream> Connection<Alone<S>> {
         Connection::opened(Alone::new(Exchange::new(engine, Some(serving)), stream, options.patience))
     }
 
-    /// Waits for what comes next, no longer than the options say: [`Failure::Silent`]. An error after
-    /// [`Next::Closed`].
-    #[allow(clippy::should_implement_trait)]
-    pub fn next(&mut self) -> Result<Next, Failure> {
-        self.next_in(self.way.patience)?.ok_or(Failure::Silent)
-    }
-
-    /// The same for so long: none where nothing came.
+    /// As [`Connection::next`], for so long: none where nothing came.
     pub fn next_in(&mut self, time: Duration) -> Result<Option<Next>, Failure> {
         let began = Instant::now();
         loop {
@@ -133,6 +126,20 @@ impl<S: Stream> Connection<Alone<S>> {
             }
             let Some(left) = time.checked_sub(began.elapsed()) else { return Ok(None) };
             self.way.read(left)?;
+        }
+    }
+}
+
+impl<W: Way> Connection<W> {
+    /// Waits for what comes next for a server, no longer than the options say: [`Failure::Silent`]. An error after
+    /// [`Next::Closed`]. Of several threads that have the connection, one is told of each.
+    #[allow(clippy::should_implement_trait)]
+    pub fn next(&mut self) -> Result<Next, Failure> {
+        let next = self.until(|it| Ok(it.serving.as_mut().and_then(|it| it.next.pop_front())))?;
+        match (self.way.flush(), &next) {
+            // behind its Close a client may be gone
+            (_, Next::Closed) | (Ok(()), _) => Ok(next),
+            (Err(why), _) => Err(why),
         }
     }
 }

@@ -9,8 +9,8 @@ use crate::alone::{Alone, Stream, Way};
 use crate::connecting::{key, socket};
 use crate::exchange::Exchange;
 use crate::{
-    Attach, Begin, Browser, Delivery, Disposition, Engine, Error, Failure, Link, Login, Message, Opening, Options,
-    Outcome, Performative, Receiver, Role, Sender, Settled, Wish,
+    Attach, Begin, Between, Browser, Delivery, Disposition, Engine, Error, Failure, Link, Login, Message, Opening,
+    Options, Outcome, Performative, Receiver, Role, Sender, Settled, Terminus, Wish,
 };
 
 /// A connection: a stream, an engine, and what came and was not yet asked for. Each call writes what waits, and waits
@@ -96,6 +96,12 @@ impl<W: Way> Connection<W> {
         self.attach_by(session, attach, attach, 0).map(Sender)
     }
 
+    /// The same to a target, as to a durable one.
+    pub fn sender_to(&mut self, session: u32, name: &str, target: &Terminus) -> Result<Sender, Failure> {
+        let by = Between::sender(name, *target);
+        self.attach_by(session, &by.attach, &by, 0).map(Sender)
+    }
+
     /// Attaches a receiver from an address, which has credit for so many messages and renews it; with 0
     /// [`Connection::grant`] gives it.
     pub fn receiver(&mut self, session: u32, name: &str, address: &str, credit: u32) -> Result<Receiver, Failure> {
@@ -108,6 +114,18 @@ impl<W: Way> Connection<W> {
             return Err(Error::BadArgument.into());
         }
         self.attach_by(session, attach, attach, credit).map(Receiver)
+    }
+
+    /// The same from a source, as from one whose node keeps its messages.
+    pub fn receiver_from(
+        &mut self,
+        session: u32,
+        name: &str,
+        source: &Terminus,
+        credit: u32,
+    ) -> Result<Receiver, Failure> {
+        let by = Between::receiver(name, *source);
+        self.attach_by(session, &by.attach, &by, credit).map(Receiver)
     }
 
     /// Attaches a receiver that browses, with credit for so many messages, and waits for the peer's Attach.

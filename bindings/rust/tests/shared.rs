@@ -128,6 +128,49 @@ fn a_server_lets_in_whom_it_knows() {
     assert!(served.join().unwrap().is_err());
 }
 
+/// One thread of a server waits for what comes next, and another one sends what it is handed: where a call waited for
+/// its time alone, this would take seconds.
+#[test]
+fn a_server_has_several_threads() {
+    let (near, far) = UnixStream::pair().unwrap();
+    let served = spawn(move || {
+        let mut it = Connection::serve(far, &Options::new("it"), 50).unwrap().share().unwrap();
+        let ((tell, told), mut sends) = (sync_channel::<(Sender, Vec<u8>)>(9), it.clone());
+        let sending = spawn(move || told.iter().all(|(link, message)| sends.send_bytes(&link, &message).is_ok()));
+        let (mut link, mut kinds) = (None, BTreeMap::new());
+        loop {
+            let next = it.next().unwrap();
+            *kinds.entry(format!("{next:?}").split([' ', '(']).next().unwrap().to_string()).or_insert(0) += 1;
+            match next {
+                Next::Sender { link: to, .. } => link = Some(to),
+                Next::Delivery(delivery) => {
+                    it.accept(&delivery).unwrap();
+                    tell.send((link.unwrap(), delivery.payload)).unwrap();
+                }
+                Next::Closed => break,
+                _ => {}
+            }
+        }
+        drop(tell);
+        (sending.join().unwrap(), kinds)
+    });
+    let mut connection = Connection::over(near, &Options::new("me")).unwrap();
+    let session = connection.begin().unwrap();
+    let from = connection.receiver(session, "from", "q", 1).unwrap();
+    let to = connection.sender(session, "to", "q").unwrap();
+    let began = Instant::now();
+    for number in 0..200_u32 {
+        connection.send_bytes(&to, &number.to_be_bytes()).unwrap();
+        let delivery = connection.receive(&from).unwrap();
+        assert_eq!(delivery.payload, number.to_be_bytes());
+        connection.accept(&delivery).unwrap();
+    }
+    assert!(began.elapsed() < Duration::from_secs(4), "{:?}", began.elapsed());
+    connection.close().unwrap();
+    let (has_sent, kinds) = served.join().unwrap();
+    assert_eq!((has_sent, kinds["Delivery"], kinds["Settled"], kinds["Closed"]), (true, 200, 200, 1));
+}
+
 /// Over a stream that is no socket of TCP; the client settles by each outcome.
 #[test]
 fn any_stream_will_do() {

@@ -206,6 +206,21 @@ fn messages_go_there_and_back() {
 }
 
 #[test]
+fn a_durable_target_and_a_source_that_keeps() {
+    let (mut connection, session, served) = connected(&Options::new("me"));
+    let target = Terminus { durable: Durability::Unsettled, ..Terminus::at("q") };
+    let sender = connection.sender_to(session, "to", &target).unwrap();
+    connection.send(&sender, &Message::data(b"hello")).unwrap();
+    let source = Terminus { distribution_mode: Some("copy"), ..Terminus::at("q") };
+    let receiver = connection.receiver_from(session, "from", &source, 1).unwrap();
+    assert_eq!(Message::read(&connection.receive(&receiver).unwrap().payload).unwrap().body, b"hello");
+    let wrong = Terminus { distribution_mode: Some("copy"), ..target };
+    assert!(matches!(connection.sender_to(session, "no", &wrong), Err(Failure::Engine(Error::BadArgument))));
+    connection.close().unwrap();
+    assert!(served.join().unwrap().0);
+}
+
+#[test]
 fn a_long_message_goes_in_parts() {
     let (mut connection, session, served) = connected(&Options::new("me"));
     let sender = connection.sender(session, "to", "q").unwrap();

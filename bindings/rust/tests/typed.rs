@@ -99,6 +99,35 @@ fn performatives_have_their_fields() {
 }
 
 #[test]
+fn termini_have_their_fields() {
+    let durable = Durability::Unsettled;
+    let target = Terminus { durable, ..Terminus::at("queue") };
+    let attach = bytes(&Between::sender("out", target));
+    let (fields, to) = (Fields(&attach), Fields(&attach).field(6).unwrap());
+    assert_eq!((fields.text(0), fields.flag(2)), (Some("out"), false));
+    assert_eq!((to.descriptor(), to.text(0), to.number(1), to.field(2)), (Some(0x29), Some("queue"), Some(2), None));
+    let source = Terminus {
+        address: None,
+        durable: Durability::Configuration,
+        expiry_policy: Some("never"),
+        timeout: 5,
+        is_dynamic: true,
+        distribution_mode: Some("move"),
+        capability: Some("topic"),
+    };
+    let attach = bytes(&Between::receiver("in", source));
+    let source = Fields(&attach).field(5).unwrap();
+    assert_eq!((source.descriptor(), source.text(0), source.number(1)), (Some(0x28), None, Some(1)));
+    assert_eq!((source.text(2), source.number(3), source.flag(4)), (Some("never"), Some(5), true));
+    assert_eq!((source.text(6), source.field(7), source.text(10)), (Some("move"), None, Some("topic")));
+    assert_eq!(Fields(&attach).field(6).unwrap().text(0), Some("in"));
+    // a target has no distribution-mode, and a text no 0
+    let wrong = Terminus { distribution_mode: Some("copy"), ..target };
+    assert_eq!(Between::sender("out", wrong).write(&mut Vec::new()), Err(Error::BadArgument));
+    assert_eq!(Between::sender("out", Terminus::at("a\0b")).write(&mut Vec::new()), Err(Error::BadArgument));
+}
+
+#[test]
 fn a_login_is_told_in_parts() {
     let logins = [Login { mechanism: "ASKS", response: None }, Login::anonymous()];
     let opening = Opening::Client { logins: &logins, host: Some("host") };
