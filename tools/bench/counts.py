@@ -10,6 +10,8 @@ instructions than are stored, or a hundredth of a request for memory more. What 
 cheaper by as much is told, and to be stored too. The last line is 'N passed, M failed'.
 """
 
+import contextlib
+import os
 import re
 import shutil
 import subprocess
@@ -25,7 +27,8 @@ from bench.bench import FEW, MANY, PAYLOAD, run
 from bench.program import CRATE, ENGINE_LINES, codec_frames, lines
 from shared.command import command
 
-STORED = Path(__file__).with_suffix(".txt")
+ROOT = Path(__file__).resolve().parents[2]
+STORED = Path(__file__).resolve().with_suffix(".txt")
 # So much more is dearer: of the instructions a part, and of the requests a number.
 PART, REQUESTS = 0.03, 0.011
 # At most so many counts at a time
@@ -80,6 +83,24 @@ def of_codec(program, name):
     return [(many[i] - few[i]) / (many[2] - few[2]) for i in (0, 1)]
 
 
+@contextlib.contextmanager
+def alike(program):
+    """A path by which the program is called alike from wherever it lies, and in one environment: their lengths move the stack, and with it what
+    copies cost, by some percent."""
+    environment = dict(os.environ)
+    with tempfile.TemporaryDirectory() as folder:
+        shutil.copy(program, Path(folder) / CRATE.name)
+        os.chdir(folder)
+        os.environ.clear()
+        os.environ.update(PATH="/usr/local/bin:/usr/bin:/bin", LANG="C.UTF-8")
+        try:
+            yield f"./{CRATE.name}"
+        finally:
+            os.environ.clear()
+            os.environ.update(environment)
+            os.chdir(ROOT)
+
+
 def install():
     """Installs Debian's valgrind where there is none."""
     if not shutil.which("valgrind"):
@@ -121,11 +142,12 @@ def judged(name, now, before):
 def main():
     words = sys.argv[1:]
     is_write = words[:1] == ["--write"]
-    program = (words[is_write:] or [str(CRATE / "out" / CRATE.name)])[0]
-    if not Path(program).is_file():
+    program = Path((words[is_write:] or [CRATE / "out" / CRATE.name])[0]).resolve()
+    if not program.is_file():
         sys.exit(f"counts: no {program}: rt ci leaves it, and rt run in crates/bench_engine")
     install()
-    found = counted(program)
+    with alike(program) as called:
+        found = counted(called)
     if is_write:
         write(found)
     before = stored()
