@@ -19,9 +19,14 @@ fn put(rt: &impl Abort, table: &mut Unsettled, number: u32) {
     }
 }
 
+/// The link of a delivery: each has one of its own, some way above that of the one before.
+fn link_of(number: u32) -> u32 {
+    number.wrapping_mul(3)
+}
+
 /// The same of links that come one after the other, so that there is no list for any of them.
 fn put_on(rt: &impl Abort, table: &mut Unsettled, number: u32) {
-    let link = number * 3;
+    let link = link_of(number);
     if table.insert(entry(number, link)) == Err(InsertError::OutOfMemory) {
         same(rt, table.len(), number as usize);
         same(rt, table.get(number), None);
@@ -41,8 +46,8 @@ fn a_refused_link_leaves_nothing(rt: HostRuntime) -> Result<(), Fail> {
         put_on(&rt, &mut table, number);
     }
     for number in 0..40u32 {
-        let wanted = Some(entry(number, number * 3));
-        same(&rt, table.remove_next_of(number * 3), wanted);
+        let wanted = Some(entry(number, link_of(number)));
+        same(&rt, table.remove_next_of(link_of(number)), wanted);
     }
     same(&rt, table.len(), 0);
     Ok(())
