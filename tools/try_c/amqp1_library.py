@@ -14,6 +14,8 @@ import sys
 from pathlib import Path
 
 HEADERS = Path(__file__).resolve().parents[2] / "include" / "amqp1"
+# Those of the headers that have functions
+NAMES = ["attach", "calls", "exports", "links", "read", "trace", "write"]
 HEADER = b"AMQP\0\1\0\0"
 SENT = bytes.fromhex("0000001b02000000005310c00e04a1026d654070000100006000ff")
 OPENED = bytes.fromhex("0000001a02000000005310c00d03a10470656572407000000400")
@@ -29,7 +31,7 @@ class Took(ctypes.Structure):
 
 def declared():
     """The names of the functions that the headers have, and of the exports that they declare."""
-    text = "".join((HEADERS / f"{name}.h").read_text() for name in ("exports", "calls", "links", "read", "trace", "write"))
+    text = "".join((HEADERS / f"{name}.h").read_text() for name in NAMES)
     inline = re.findall(r"^AMQP1_FUNCTION [^(]*?(\w+)\(", text, re.M)
     return {*inline, *re.findall(r"^(?:int32_t|uint32_t|void) (amqp1_\w+)\(", text, re.M)}
 
