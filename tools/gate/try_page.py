@@ -200,6 +200,11 @@ def any_bytes_are_a_row():
 # ---- what watch.py writes
 
 
+def heed_interruptions():
+    """Where the gate runs in the background, its shell has SIGINT ignored in all that it starts."""
+    signal.signal(signal.SIGINT, signal.default_int_handler)
+
+
 async def watched(path, streams, interrupts):
     """What watch.py tells of one connection, which ends, or is interrupted."""
 
@@ -211,7 +216,8 @@ async def watched(path, streams, interrupts):
     server = await asyncio.start_server(serve, "127.0.0.1", 0)
     far = server.sockets[0].getsockname()[1]
     words = [sys.executable, watch.__file__, "0", "127.0.0.1", str(far), "--connections", "1", "--html", str(path)]
-    watcher = await asyncio.create_subprocess_exec(*words, stdout=asyncio.subprocess.PIPE, stderr=asyncio.subprocess.PIPE)
+    pipe = asyncio.subprocess.PIPE
+    watcher = await asyncio.create_subprocess_exec(*words, stdout=pipe, stderr=pipe, preexec_fn=heed_interruptions)
     port = int((await watcher.stdout.readline()).split(b":")[-1])
     reader, writer = await asyncio.open_connection("127.0.0.1", port)
     writer.write(streams["A"])
