@@ -31,6 +31,8 @@ MOST_MESSAGE, MOST_BYTES = 1 << 20, 64 << 20
 PART = 65000
 # What the program holds beside its messages, at most, in kB
 BESIDE = 24 << 10
+# How many seconds one peer may take.
+LIMIT = 120
 ACCEPTED, RELEASED = b"\0\x53\x24", b"\0\x53\x26"
 
 
@@ -117,6 +119,9 @@ def talk(program, stream):
     """What the broker told until it detached, closed or ended, and its high-water mark in kB."""
     process = subprocess.Popen([program], stdin=subprocess.PIPE, stdout=subprocess.PIPE, stderr=subprocess.DEVNULL)
     feeder = threading.Thread(target=feed, args=(process, stream), daemon=True)
+    # a broker that answers nothing more has failed, and holds nobody up
+    late = threading.Timer(LIMIT, process.kill)
+    late.start()
     feeder.start()
     told, held = Told(), 0
     for frame in frames(process.stdout):
@@ -124,6 +129,7 @@ def talk(program, stream):
         if frame[6] in (DETACH, CLOSE):
             held = high_water(process)
             break
+    late.cancel()
     process.kill()
     feeder.join()
     process.wait()

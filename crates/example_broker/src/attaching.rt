@@ -3,7 +3,7 @@
 use crate::broker::Broker;
 use crate::faults::attach_fault;
 use crate::giving::Consumer;
-use crate::senders::{MOST_MESSAGE, RENEWAL, Sender};
+use crate::senders::{MOST_MESSAGE, Sender};
 use amqp_driver::{PlainRelay, Record, flag, marked_name};
 use amqp_events::{Policy, Recorded};
 use fe2o3_amqp::{
@@ -65,7 +65,7 @@ impl Broker {
             drop(answer);
             return Ok(());
         };
-        match endpoint.attach_under(&mut self.stream, name.as_str(), answer, Some(RENEWAL)) {
+        match endpoint.attach_under(&mut self.stream, name.as_str(), answer, None) {
             Ok(handle) => self.add(record, handle.0),
             Err(error) => {
                 self.fault = attach_fault(error);

@@ -3,7 +3,7 @@
 use crate::faults::{begin_fault, fault_of, refused_fault};
 use crate::giving::Consumer;
 use crate::queue::{MOST_UNSETTLED, Queue};
-use crate::senders::Sender;
+use crate::senders::{CREDIT, Sender, lacks_credit};
 use amqp_driver::{Asked, EndAnswer, PlainRelay, Record, Status, Stream, kind};
 use amqp_endpoints::{FlowWish, LinkAnswer, LinkEvent, SessionEndpoint};
 use amqp_sasl::Opening;
@@ -228,8 +228,18 @@ impl Broker {
                 return;
             };
             let (session, handle) = (sender.session, sender.handle);
-            self.say(session, handle, FlowWish::Renew);
+            if self.lacks_credit(session, handle) {
+                self.say(session, handle, FlowWish::Grant(CREDIT));
+            }
         }
+    }
+
+    /// Whether a link on which the client sends has little credit left.
+    fn lacks_credit(&self, session: u32, handle: u32) -> bool {
+        let Some(endpoint) = self.sessions.get(&session) else {
+            return false;
+        };
+        lacks_credit(endpoint.links().end(handle))
     }
 
     /// The same of a flow or a Detach. One that waits is not done yet.

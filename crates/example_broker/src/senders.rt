@@ -3,15 +3,14 @@
 use crate::message::Message;
 use crate::queue::Queue;
 use amqp_driver::Record;
-use amqp_endpoints::Renewal;
-use amqp_links::{Part, PartEnd};
+use amqp_links::{End, Life, Part, PartEnd};
 use std::io;
 
-/// When a sender gets new credit: where fewer than half of 500 messages are left.
-pub const RENEWAL: Renewal = Renewal {
-    low: 251,
-    high: 500,
-};
+/// A sender gets new credit where fewer messages than these are left of it.
+const FEW: u32 = 251;
+
+/// So much credit it has then. No link has a rule by which it renews its credit itself: that would not look whether the queue has room.
+pub const CREDIT: u32 = 500;
 
 /// How many bytes a message may have.
 pub const MOST_MESSAGE: u64 = 1048576;
@@ -76,5 +75,16 @@ impl Sender {
         if let Some(message) = self.coming.take() {
             queue.let_go(message);
         }
+    }
+}
+
+/// Whether a link on which the client sends is to get credit, where there is room: of what it has few messages are left.
+pub fn lacks_credit(end: Option<End>) -> bool {
+    let Some(end) = end else {
+        return false;
+    };
+    match end {
+        End::Receiving(link) => link.life() == Life::Attached && link.credit() < FEW,
+        End::Sending(_) => false,
     }
 }
