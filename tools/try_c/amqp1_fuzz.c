@@ -27,7 +27,7 @@ static void tell(amqp1 *engine, const amqp1_record *it, uint64_t given)
     MUST(status == AMQP1_DONE || status == AMQP1_NOT_NEXT);
     if (status != AMQP1_DONE)
         return;
-    MUST(event.kind <= AMQP1_EVENT_ENDED && event.session == it->session && event.flags < 256);
+    MUST(event.kind <= AMQP1_EVENT_ENDED && event.session == it->session && event.flags < 2 * AMQP1_EVENT_NUMBERED);
     MUST((event.kind == AMQP1_EVENT_NOTHING || event.kind == AMQP1_EVENT_SETTLED) == (event.link == AMQP1_NONE));
     status = amqp1_link_respond(engine, &event, (uint32_t)given);
     MUST(amqp1_link_went(status) || status == AMQP1_REFUSED);
