@@ -1,12 +1,13 @@
 //! Laws of a program's own over the promise of a run: each is a contract here, with a short proof, by public laws alone.
 #![tactic(auto)]
 
-ghost use Rattle.std.specs.Prelude.{◌≡◌, ℕ, List, [], OnOk};
+ghost use Rattle.std.specs.Prelude.{ℕ, List, []};
 ghost use Rattle.fe2o3_amqp.specs.amqp_types.declared.states.ConnectionState.{ConnectionState};
 ghost use Rattle.fe2o3_amqp.specs.amqp_types.Open.{OpenModel};
 ghost use Rattle.fe2o3_amqp.specs.amqp_engine.EngineView.{EngineView};
 ghost use Rattle.fe2o3_amqp.specs.amqp_engine.Entry.{Entry};
 ghost use Rattle.fe2o3_amqp.specs.amqp_engine.Legal.{Legal};
+ghost use Rattle.fe2o3_amqp.specs.amqp_engine.Promise.{Ends, NoneLeft};
 ghost use Rattle.example_laws.specs.Answered.{Answered};
 ghost use Rattle.example_laws.specs.Mapped.{DoneInMapped};
 
@@ -21,14 +22,15 @@ pub fn law_of_done_transfers<R: LinkRelay>()
     law_of_histories::<R>();
 }
 
-/// Runs the inputs. Each one that was taken has its answer, in order, and an Attach that is done was sent; where it is `Ok`, all were taken.
+/// Runs the inputs, by the contract of `Engine::run`, and says more of its entries: each has its answer, in order, and an Attach that is done was sent.
+/// Where it is `Ok`, all were taken, and no frame waits; else memory was refused.
 pub fn run<R: LinkRelay>(
     engine: &mut Engine<R>,
     inputs: &mut VecDeque<Input<R>>,
     answers: &mut Vec<Answer>,
 ) -> Result<(), Stopped>
-    ensures answered { Answered inputs.old.items answers.old.items inputs.new.items answers.new.items }
-    ensures all { OnOk result (inputs.new.items ≡ []) }
+    ensures answered { Answered R.gives engine.old inputs.old.items answers.old.items engine.new inputs.new.items answers.new.items }
+    ensures ends { Ends (NoneLeft inputs.new.items engine.new) inputs.old.items inputs.new.items result }
 {
     engine.run(inputs, answers)
 }

@@ -111,3 +111,22 @@ fn a_link_that_goes_after_a_part_was_settled(rt: HostRuntime) -> Result<(), Fail
     same(&rt, table.remove_oldest(), Some(entry(10, 1)));
     Ok(())
 }
+
+/// What is unsettled on a link that is forgotten stays, and a link without any can have deliveries again.
+#[test]
+fn a_link_that_is_forgotten_keeps_what_is_unsettled(rt: HostRuntime) -> Result<(), Fail> {
+    let mut table = Unsettled::new(rt.alloc());
+    same(&rt, table.insert(entry(1, 4)), Ok(()));
+    same(&rt, table.insert(entry(2, 5)), Ok(()));
+    table.forget_link(4);
+    same(&rt, table.count_of(4), 1);
+    same(&rt, table.remove_next_of(4), Some(entry(1, 4)));
+    table.forget_link(4);
+    table.forget_link(4_294_967_295);
+    same(&rt, table.count_of(4), 0);
+    same(&rt, table.next_of(5), Some(entry(2, 5)));
+    same(&rt, table.insert(entry(3, 4)), Ok(()));
+    same(&rt, table.remove_next_of(4), Some(entry(3, 4)));
+    same(&rt, table.len(), 1);
+    Ok(())
+}

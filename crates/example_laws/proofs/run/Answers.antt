@@ -6,10 +6,7 @@ pub returns-clause-answered : goal.returns-clause-answered
 returns-clause-answered g c =
     let r = c.run.ensures.ran in
     record {
-      entries = r.entries;
-      taken = r.promise.taken;
-      out = r.promise.out;
-      appended = r.promise.appended;
+      ran = r;
       each = one_each _ _ r.entries _ r.promise.out r.promise.said;
       attached = all_go_out g.R.LinkRelay.gives _ r.entries _ r.steps;
     }
