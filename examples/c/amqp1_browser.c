@@ -1,7 +1,7 @@
 /* Shows messages that wait at an address of a server, leaves them there, and closes: as copies, if the server knows the
    distribution-mode `copy` (AMQP 1.0 part 3, section 3.5.7), and else by giving each back.
 
-       amqp1_browser HOST PORT ADDRESS [COUNT [USER PASSWORD | CA CERTIFICATE KEY]]
+       amqp1_browser HOST PORT ADDRESS [COUNT [USER PASSWORD | CA [CERTIFICATE KEY]]]
 
    Build it by `cc amqp1_browser.c amqp1_socket.c $(pkg-config --cflags --libs amqp1)`. */
 #include "amqp1_socket.h"

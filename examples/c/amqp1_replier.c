@@ -1,7 +1,7 @@
 /* Replies to requests at an address of a server, and closes. A reply goes to the request's reply-to, with its
    message-id as the correlation-id. It takes one request after the other. amqp1_requester.c asks.
 
-       amqp1_replier HOST PORT ADDRESS [COUNT [USER PASSWORD | CA CERTIFICATE KEY]]
+       amqp1_replier HOST PORT ADDRESS [COUNT [USER PASSWORD | CA [CERTIFICATE KEY]]]
 
    Build it by `cc amqp1_replier.c amqp1_message.c amqp1_socket.c $(pkg-config --cflags --libs amqp1)`. */
 #include "amqp1_message.h"

@@ -1,7 +1,7 @@
 /* Sends requests to an address of a server, has each replied to at ADDRESS.replies, and closes. A request's id comes
    back as the reply's correlation-id. amqp1_replier.c replies.
 
-       amqp1_requester HOST PORT ADDRESS [COUNT [USER PASSWORD | CA CERTIFICATE KEY]]
+       amqp1_requester HOST PORT ADDRESS [COUNT [USER PASSWORD | CA [CERTIFICATE KEY]]]
 
    Build it by `cc amqp1_requester.c amqp1_message.c amqp1_socket.c $(pkg-config --cflags --libs amqp1)`. */
 #include "amqp1_message.h"

@@ -120,19 +120,19 @@ static void connect_to(const char *host, const char *port, uint8_t key[16])
 }
 
 #ifdef AMQP1_TLS
-/* What TLS needs of this side: a certificate and its key. */
+/* What TLS needs of this side: a certificate and its key, if it has one. */
 static SSL_CTX *context_of(const SSL_METHOD *method, const char *certificate, const char *key)
 {
     SSL_CTX *context = SSL_CTX_new(method);
     /* OpenSSL writes without MSG_NOSIGNAL */
     signal(SIGPIPE, SIG_IGN);
-    if (!context || SSL_CTX_use_certificate_file(context, certificate, SSL_FILETYPE_PEM) != 1 ||
-        SSL_CTX_use_PrivateKey_file(context, key, SSL_FILETYPE_PEM) != 1)
+    if (!context || (certificate && (SSL_CTX_use_certificate_file(context, certificate, SSL_FILETYPE_PEM) != 1 ||
+                                     SSL_CTX_use_PrivateKey_file(context, key, SSL_FILETYPE_PEM) != 1)))
         fail("a certificate or a key cannot be read");
     return context;
 }
 
-/* Speaks TLS with it, with this side's certificate and its key: the server's certificate has to be for the host, and of the authority `ca`. */
+/* Speaks TLS with it, with this side's certificate and its key, or without: the server's certificate has to be for the host, and of the authority `ca`. */
 static void tls_to(const char *host, const char *ca, const char *certificate, const char *key)
 {
     SSL_CTX *context = context_of(TLS_client_method(), certificate, key);
@@ -164,15 +164,16 @@ static void start_client(int words_count, char **words, const char *name)
 {
     uint8_t key[16], text[512];
     size_t length;
-    if (words_count < 4 || words_count == 6 || words_count > 8)
-        fail("usage: HOST PORT ADDRESS [COUNT [USER PASSWORD | CA CERTIFICATE KEY]]");
+    if (words_count < 4 || words_count > 8)
+        fail("usage: HOST PORT ADDRESS [COUNT [USER PASSWORD | CA [CERTIFICATE KEY]]]");
     the_address = words[3];
     messages = words_count > 4 ? (uint32_t)atoi(words[4]) : 5;
     window = getenv("AMQP1_WINDOW") ? (uint32_t)atoi(getenv("AMQP1_WINDOW")) : window;
     connect_to(words[1], words[2], key);
     must("an open's text", amqp1_write_open(text, sizeof text, &length, name, words[1], 65536, 255, 0));
+    if (words_count == 6 || words_count == 8)
+        tls_to(words[1], words[5], words[6], words_count == 8 ? words[7] : NULL);
     if (words_count == 8) {
-        tls_to(words[1], words[5], words[6], words[7]);
         must("an engine", amqp1_start_external(&engine, key, now(), LIMIT, words[1], "", text, length));
     } else {
         const char *user = words_count == 7 ? words[5] : NULL, *password = words_count == 7 ? words[6] : NULL;

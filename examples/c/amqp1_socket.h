@@ -1,4 +1,4 @@
-/* A blocking socket to one peer, with TLS or without, for amqp1_sender.c, amqp1_receiver.c, amqp1_send.c and amqp1_listener.c: connecting, listening, the
+/* A blocking socket to one peer, with TLS or without, for amqp1_sender.c, amqp1_receiver.c, amqp1_send.c and amqp1_server.c: connecting, listening, the
    bytes of an engine in and out, the time, and randomness; and what each client does alike. amqp1_serving.c has how a server answers.
 
    With -DAMQP1_TLS amqp1_socket.c speaks TLS by OpenSSL (-lssl -lcrypto). Where the environment names a file by AMQP1_RECORD, each read and each write
@@ -37,11 +37,12 @@ extern uint32_t messages, window;
 
 /* Runs a client of this name by the words of its program:
 
-       HOST PORT ADDRESS [COUNT [USER PASSWORD | CA CERTIFICATE KEY]]
+       HOST PORT ADDRESS [COUNT [USER PASSWORD | CA [CERTIFICATE KEY]]]
 
-   5 messages where no COUNT is there. It connects, and logs in by PLAIN as USER; by EXTERNAL over TLS, where the server's certificate has to be for
-   the host, and of the authority CA; or by ANONYMOUS. Other words end the program, which says how it is used. Once as many messages are counted it
-   closes, and takes no record any more. The program ends where the peer does not close too, or before. */
+   5 messages where no COUNT is there. It connects, and logs in by PLAIN as USER; by EXTERNAL over TLS, with a certificate of its own; or by ANONYMOUS,
+   over TLS where there is a CA alone. The server's certificate has to be for the host, and of the authority CA. Other words end the program, which says
+   how it is used. Once as many messages are counted it closes, and takes no record any more. The program ends where the peer does not close too, or
+   before. */
 void run_client(int words_count, char **words, const char *name, const uint32_t *counted);
 
 /* What a client does with each record: at the server's Open the session 0 begins; a refusal, an error, a Detach or an End ends the program. What the record

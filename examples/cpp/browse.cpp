@@ -1,5 +1,5 @@
 // Shows messages that wait at an address of a server, leaves them there, and closes: browse HOST PORT ADDRESS [COUNT
-// [USER PASSWORD | CA CERTIFICATE KEY]]. See client.hpp.
+// [USER PASSWORD | CA [CERTIFICATE KEY]]]. See client.hpp.
 #include "client.hpp"
 
 static void browse(int count, char **words)

@@ -58,8 +58,8 @@ int connect_to(const char *host, const char *port)
 // A socket to the server of a client's words.
 int connected(int count, char **words)
 {
-    if (count < 4 || count == 6 || count > 8)
-        throw std::runtime_error("usage: HOST PORT ADDRESS [COUNT [USER PASSWORD | CA CERTIFICATE KEY]]");
+    if (count < 4 || count > 8)
+        throw std::runtime_error("usage: HOST PORT ADDRESS [COUNT [USER PASSWORD | CA [CERTIFICATE KEY]]]");
     return connect_to(words[1], words[2]);
 }
 
@@ -67,15 +67,15 @@ int connected(int count, char **words)
 
 #ifdef AMQP1_TLS
 // TLS with the server: its certificate has to be for the host, and of the authority of the first of these files; the
-// others are this side's certificate and its key.
+// others, if there are any, are this side's certificate and its key.
 void peer::start_tls(const char *host, char **files)
 {
     // OpenSSL writes without MSG_NOSIGNAL
     std::signal(SIGPIPE, SIG_IGN);
     SSL_CTX *context = SSL_CTX_new(TLS_client_method());
     if (!context || SSL_CTX_load_verify_locations(context, files[0], nullptr) != 1 ||
-        SSL_CTX_use_certificate_file(context, files[1], SSL_FILETYPE_PEM) != 1 ||
-        SSL_CTX_use_PrivateKey_file(context, files[2], SSL_FILETYPE_PEM) != 1)
+        (files[1] && (SSL_CTX_use_certificate_file(context, files[1], SSL_FILETYPE_PEM) != 1 ||
+                      SSL_CTX_use_PrivateKey_file(context, files[2], SSL_FILETYPE_PEM) != 1)))
         throw std::runtime_error("a certificate or a key cannot be read");
     SSL_CTX_set_verify(context, SSL_VERIFY_PEER, nullptr);
     tls_ = SSL_new(context);
@@ -118,8 +118,9 @@ client::client(int count, char **words, const char *name) : peer(connected(count
     auto open = amqp::write_open(name, words[1]);
     address = words[3];
     messages = count > 4 ? static_cast<std::uint32_t>(std::atoi(words[4])) : 5;
-    if (count == 8) {
+    if (count == 6 || count == 8)
         start_tls(words[1], words + 5);
+    if (count == 8) {
         engine = amqp::engine::external(a_key(), {now(), limit}, words[1], "", open);
     } else {
         engine = amqp::engine::client(a_key(), {now(), limit}, words[1], user, password, open);

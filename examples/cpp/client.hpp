@@ -73,9 +73,10 @@ class peer
     std::uint8_t came_[1 << 17];
 };
 
-// A client, by the words of its program: HOST PORT ADDRESS [COUNT [USER PASSWORD | CA CERTIFICATE KEY]]. It logs in by
-// PLAIN as USER; by EXTERNAL over TLS, where the server's certificate has to be for the host, and of the authority CA;
-// or by ANONYMOUS. Its session 0 begins by itself. A refusal, and what the server ends, throws.
+// A client, by the words of its program: HOST PORT ADDRESS [COUNT [USER PASSWORD | CA [CERTIFICATE KEY]]]. It logs in
+// by PLAIN as USER; by EXTERNAL over TLS, with a certificate of its own; or by ANONYMOUS, over TLS where there is a CA
+// alone. The server's certificate has to be for the host, and of the authority CA. Its session 0 begins by itself. A
+// refusal, and what the server ends, throws.
 class client : public peer
 {
   public:

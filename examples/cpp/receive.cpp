@@ -1,5 +1,5 @@
 // Receives messages from an address of a server, accepts each, and closes: receive HOST PORT ADDRESS [COUNT [USER
-// PASSWORD | CA CERTIFICATE KEY]]. It gives credit for a hundred, which the library renews, so more may come than are
+// PASSWORD | CA [CERTIFICATE KEY]]]. It gives credit for a hundred, which the library renews, so more may come than are
 // awaited: those are not accepted. See client.hpp.
 #include "client.hpp"
 

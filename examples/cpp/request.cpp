@@ -1,5 +1,5 @@
 // Sends requests to an address of a server, has each replied to at ADDRESS.replies, and closes: request HOST PORT
-// ADDRESS [COUNT [USER PASSWORD | CA CERTIFICATE KEY]]. reply.cpp replies. A request's id comes back as the reply's
+// ADDRESS [COUNT [USER PASSWORD | CA [CERTIFICATE KEY]]]. reply.cpp replies. A request's id comes back as the reply's
 // correlation-id. See client.hpp.
 #include "client.hpp"
 

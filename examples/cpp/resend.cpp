@@ -1,5 +1,5 @@
 // Sends messages to an address of a server, and goes on by a new connection where one is lost: resend HOST PORT ADDRESS
-// [COUNT [USER PASSWORD | CA CERTIFICATE KEY]]. The link is attached under the same name, and what the server had not
+// [COUNT [USER PASSWORD | CA [CERTIFICATE KEY]]]. The link is attached under the same name, and what the server had not
 // settled is sent again, so each message arrives at least once. The status is 0 where all were accepted; it gives up
 // after 60 losses. See client.hpp.
 #include "client.hpp"

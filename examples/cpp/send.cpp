@@ -1,5 +1,5 @@
 // Sends messages to an address of a server as it gives credit, has each accepted, and closes: send HOST PORT ADDRESS
-// [COUNT [USER PASSWORD | CA CERTIFICATE KEY]]. The status is 0 where all were accepted. See client.hpp.
+// [COUNT [USER PASSWORD | CA [CERTIFICATE KEY]]]. The status is 0 where all were accepted. See client.hpp.
 #include "client.hpp"
 
 static void send(int count, char **words)

@@ -1,5 +1,5 @@
 #!/usr/bin/env python3
-"""Asks a service, and answers as one, over a broker that gives dynamic addresses: request_reply.py URL ADDRESS"""
+"""Asks a service, and answers as one: request_reply.py URL ADDRESS [REPLIES], where the broker gives no address."""
 
 import asyncio
 import sys
@@ -10,8 +10,8 @@ sys.path.insert(0, str(Path(__file__).resolve().parents[2] / "bindings" / "pytho
 from amqp_engine import Message, connect
 
 
-async def ask(connection, address, body):
-    async with connection.sender(address) as sender, connection.receiver(dynamic=True) as replies:
+async def ask(connection, address, body, *own):
+    async with connection.sender(address) as sender, connection.receiver(*own, dynamic=not own) as replies:
         await sender.send(Message(body, reply_to=replies.address, correlation_id="1"))
         reply = await replies.receive(timeout=10)
         await reply.accept()
@@ -27,11 +27,11 @@ async def serve(connection, address):
             await delivery.accept()
 
 
-async def main(url, address):
+async def main(url, address, *own):
     async with connect(url) as connection:
         service = asyncio.ensure_future(serve(connection, address))
         try:
-            print(await ask(connection, address, "hello"))
+            print(await ask(connection, address, "hello", *own))
         finally:
             service.cancel()
             await asyncio.gather(service, return_exceptions=True)

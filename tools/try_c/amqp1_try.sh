@@ -103,9 +103,9 @@ each_refused() {
 
 # Builds the examples.
 examples() {
-    cc -std=c99 "${strict[@]}" "${sanitized[@]}" examples/c/amqp1_server.c examples/c/amqp1_server_io.c "$library/libamqp1.a" -o "$folder/server" &&
+    cc -std=c99 "${strict[@]}" "${sanitized[@]}" examples/c/amqp1_epoll.c examples/c/amqp1_epoll_io.c "$library/libamqp1.a" -o "$folder/epoll" &&
         cc -std=c99 "${strict[@]}" "${sanitized[@]}" examples/c/amqp1_idle.c "$library/libamqp1.a" -o "$folder/idle" &&
-        for it in send sender receiver requester replier browser listener; do
+        for it in send sender receiver requester replier browser server; do
             cc -std=c99 "${strict[@]}" "${sanitized[@]}" "examples/c/amqp1_$it.c" examples/c/amqp1_{message,socket,serving}.c "$library/libamqp1.a" \
                 -o "$folder/$it" || return 1
         done
@@ -124,10 +124,10 @@ cpp_examples() {
     done
 }
 
-# They serve one another by the server in C: messages there and back, then requests and replies. The look whether it listens is a client too.
+# The server with epoll serves them: messages there and back, then requests and replies. The look whether it listens is a client too.
 cpp_served() {
     local port=$1 server replies
-    timeout 60 "$folder/server" "$port" 5 >"$folder/server.log" 2>&1 &
+    timeout 60 "$folder/epoll" "$port" 5 >"$folder/epoll.log" 2>&1 &
     server=$!
     for _ in $(seq 50); do
         ! (: <"/dev/tcp/127.0.0.1/$port") 2>"$folder/none" || break
@@ -136,7 +136,7 @@ cpp_served() {
     timeout 60 "$folder/cpp_send" 127.0.0.1 "$port" q 500 && timeout 60 "$folder/cpp_receive" 127.0.0.1 "$port" q 500 || return 1
     timeout 60 "$folder/cpp_reply" 127.0.0.1 "$port" r 500 &
     replies=$!
-    timeout 60 "$folder/cpp_request" 127.0.0.1 "$port" r 500 && wait "$replies" && wait "$server" && [ ! -s "$folder/server.log" ]
+    timeout 60 "$folder/cpp_request" 127.0.0.1 "$port" r 500 && wait "$replies" && wait "$server" && [ ! -s "$folder/epoll.log" ]
 }
 
 # The server in C++: what one client sends is shown to the next one, and the third one receives it. Whether it listens is looked up.
@@ -153,10 +153,10 @@ served_by_cpp() {
         timeout 60 "$folder/receiver" 127.0.0.1 "$port" q 500 | tail -n 1 && wait "$server"
 }
 
-# Requests and replies in C, by the server in C.
+# Requests and replies in C, by the server with epoll.
 asked_in_c() {
     local port=$1 server replies
-    timeout 60 "$folder/server" "$port" 3 >"$folder/server.log" 2>&1 &
+    timeout 60 "$folder/epoll" "$port" 3 >"$folder/epoll.log" 2>&1 &
     server=$!
     for _ in $(seq 50); do
         ! (: <"/dev/tcp/127.0.0.1/$port") 2>"$folder/none" || break
@@ -164,21 +164,21 @@ asked_in_c() {
     done
     timeout 60 "$folder/replier" 127.0.0.1 "$port" r 500 &
     replies=$!
-    timeout 60 "$folder/requester" 127.0.0.1 "$port" r 500 && wait "$replies" && wait "$server" && [ ! -s "$folder/server.log" ]
+    timeout 60 "$folder/requester" 127.0.0.1 "$port" r 500 && wait "$replies" && wait "$server" && [ ! -s "$folder/epoll.log" ]
 }
 
 # The smallest examples have at most 25 lines of code, and the others 40: without what stands before the first line of it, and empty lines.
 are_short() {
     local it
-    for it in sender:25 receiver:25 requester:40 replier:40 browser:40 listener:40; do
+    for it in sender:25 receiver:25 requester:40 replier:40 browser:40 server:40; do
         [ "$(sed '1,/\*\/$/d' "examples/c/amqp1_${it%:*}.c" | grep -v '^#include' | grep -c .)" -le "${it#*:}" ] || { echo "amqp1_${it%:*}.c" && return 1; }
     done
 }
 
-# The listener lets one client in by PLAIN, and one by ANONYMOUS. Whether it listens is looked up, since each that connects is a client.
+# The server lets one client in by PLAIN, and one by ANONYMOUS. Whether it listens is looked up, since each that connects is a client.
 logged_in() {
     local port=$1 send=$2 receive=$3 wait
-    timeout 60 "$folder/listener" "$port" 2 me secret >"$folder/listened" &
+    timeout 60 "$folder/server" "$port" 2 me secret >"$folder/listened" &
     wait=$!
     for _ in $(seq 50); do
         ! grep -qi ":$(printf %04X "$port") 00000000:0000 0A" /proc/net/tcp || break
@@ -249,7 +249,7 @@ fi
 holds "the examples" examples
 holds "25 lines of code of each of the smallest, and 40 of the others" are_short
 holds "an hour of idle connections" idled
-holds "500 messages each way, between the examples" served $port "$folder/server $port 2" "$folder/send 127.0.0.1 $port q 500"
+holds "500 messages each way, between the examples" served $port "$folder/epoll $port 2" "$folder/send 127.0.0.1 $port q 500"
 holds "50 messages each way by PLAIN and by ANONYMOUS, between the small examples" logged_in $((port += 1)) sender receiver
 holds "the examples in C++, of at most 40 lines of code each" cpp_examples
 holds "500 messages and 500 requests, between the examples in C++" cpp_served $((port += 1))
@@ -258,7 +258,7 @@ holds "500 messages are shown twice and received, by the server in C++" served_b
 holds "50 messages each way by PLAIN and by ANONYMOUS, of the examples in C++" logged_in $((port += 1)) cpp_send cpp_receive
 proton=(/usr/bin/python3 tools/try_c/amqp1_proton.py)
 if "${proton[0]}" -c 'import proton' 2>"$folder/said"; then
-    holds "500 messages each way, of a client of qpid-proton" served $((port += 1)) "$folder/server $port 2" "${proton[*]} client $port 500"
+    holds "500 messages each way, of a client of qpid-proton" served $((port += 1)) "$folder/epoll $port 2" "${proton[*]} client $port 500"
     holds "500 messages each way, with a server of qpid-proton" served $((port += 1)) "${proton[*]} server $port" "$folder/send 127.0.0.1 $port q 500"
 else
     echo "not tried, since there is no python3-qpid-proton: the examples with it"

@@ -1,6 +1,6 @@
 #!/usr/bin/env bash
 # Tries the crate for Rust, bindings/rust: its tests in the editions 2021 and 2024, without `std`, its page, its layout and what clippy says of it, where
-# these are; and its examples with the server in C, by PLAIN and by ANONYMOUS with the listener. It asks for no network. What is not tried here for want
+# these are; and its examples with the servers in C, by PLAIN and by ANONYMOUS with the small one. It asks for no network. What is not tried here for want
 # of a program is named, a line each. The last line is 'N passed, M failed'.
 #
 #     tools/try_c/rust_try.sh PREFIX    tries it over what build_c.sh put there
@@ -44,16 +44,16 @@ listens() {
     return 1
 }
 
-# Messages there and back, and then requests and replies, by the server in C.
+# Messages there and back, and then requests and replies, by the server with epoll in C.
 served() {
     local server replies at=127.0.0.1:$port
-    cc -std=c99 -O1 -I"$prefix/include" examples/c/amqp1_server.c examples/c/amqp1_server_io.c "$prefix/lib/libamqp1.a" -o "$folder/server" || return 1
-    timeout 60 "$folder/server" "$port" 4 >"$folder/server.log" 2>&1 &
+    cc -std=c99 -O1 -I"$prefix/include" examples/c/amqp1_epoll.c examples/c/amqp1_epoll_io.c "$prefix/lib/libamqp1.a" -o "$folder/epoll" || return 1
+    timeout 60 "$folder/epoll" "$port" 4 >"$folder/epoll.log" 2>&1 &
     server=$!
     listens "$port" && timeout 60 "$built/send" "$at" q 500 && timeout 60 "$built/receive" "$at" q 500 || return 1
     timeout 60 "$built/reply" "$at" r 500 &
     replies=$!
-    timeout 60 "$built/request" "$at" r 500 && wait "$replies" && wait "$server" && [ ! -s "$folder/server.log" ]
+    timeout 60 "$built/request" "$at" r 500 && wait "$replies" && wait "$server" && [ ! -s "$folder/epoll.log" ]
 }
 
 # The same by the server in Rust.
@@ -67,13 +67,13 @@ served_by_rust() {
     timeout 60 "$built/request" "$at" r 500 && wait "$replies" && wait "$server"
 }
 
-# The listener in C lets the one in by PLAIN, and the other by ANONYMOUS.
+# The small server in C lets the one in by PLAIN, and the other by ANONYMOUS.
 logged_in() {
-    local listener at=127.0.0.1:$((port += 1))
-    cc -std=c99 -O1 -I"$prefix/include" examples/c/amqp1_{listener,socket,serving}.c "$prefix/lib/libamqp1.a" -o "$folder/listener" || return 1
-    timeout 60 "$folder/listener" "$port" 2 me secret >"$folder/listened" &
-    listener=$!
-    listens "$port" && timeout 60 "$built/send" "$at" q 50 me secret && timeout 60 "$built/receive" "$at" q 50 && wait "$listener" &&
+    local server at=127.0.0.1:$((port += 1))
+    cc -std=c99 -O1 -I"$prefix/include" examples/c/amqp1_{server,socket,serving}.c "$prefix/lib/libamqp1.a" -o "$folder/server" || return 1
+    timeout 60 "$folder/server" "$port" 2 me secret >"$folder/listened" &
+    server=$!
+    listens "$port" && timeout 60 "$built/send" "$at" q 50 me secret && timeout 60 "$built/receive" "$at" q 50 && wait "$server" &&
         [ "$(cat "$folder/listened")" = $'let in by PLAIN\nlet in by ANONYMOUS' ]
 }
 

@@ -1,6 +1,7 @@
-//! Sends messages to a queue of a server over TLS, logged in by EXTERNAL, and has each accepted: `tls HOST:PORT QUEUE
-//! COUNT CA CERTIFICATE KEY`. The server's certificate has to be for the host, and of the authority CA. `openssl
-//! s_client` speaks TLS here, as a program beside this one; the page of `Timed` says how `rustls` and `native-tls` do.
+//! Sends messages to a queue of a server over TLS, logged in by EXTERNAL, or without a certificate by ANONYMOUS, and has
+//! each accepted: `tls HOST:PORT QUEUE COUNT CA [CERTIFICATE KEY]`. The server's certificate has to be for the host, and
+//! of the authority CA. `openssl s_client` speaks TLS here, as a program beside this one; the page of `Timed` says how
+//! `rustls` and `native-tls` do.
 
 use std::os::fd::OwnedFd;
 use std::os::unix::net::UnixStream;
@@ -14,7 +15,7 @@ fn tls(address: &str, files: &[String]) -> std::io::Result<(UnixStream, Child)> 
     let host = address.split(':').next().unwrap_or_default();
     let child = Command::new("openssl")
         .args(["s_client", "-quiet", "-verify_return_error", "-verify_hostname", host, "-connect", address])
-        .args(["-CAfile", &files[0], "-cert", &files[1], "-key", &files[2]])
+        .args(["-CAfile", "-cert", "-key"].iter().zip(files).flat_map(|(&name, file)| [name, file]))
         .stdin(OwnedFd::from(far.try_clone()?))
         .stdout(OwnedFd::from(far))
         .stderr(Stdio::null())
@@ -28,7 +29,8 @@ fn main() -> Result<(), Failure> {
         panic!("usage: tls HOST:PORT QUEUE COUNT CA CERT KEY")
     };
     let (stream, mut child) = tls(address, files)?;
-    let mut options = Options::new("tls").external();
+    let options = Options::new("tls");
+    let mut options = if files.len() == 1 { options } else { options.external() };
     options.open.hostname = address.split(':').next();
     let mut connection = Connection::over(stream, &options)?;
     let session = connection.begin()?;

@@ -1,6 +1,6 @@
-/* What the two files of the server share: amqp1_server.c has queues, links and what clients say, amqp1_server_io.c the bytes. */
-#ifndef AMQP1_SERVER_H
-#define AMQP1_SERVER_H
+/* What the two files of the server share: amqp1_epoll.c has queues, links and what clients say, amqp1_epoll_io.c the bytes. */
+#ifndef AMQP1_EPOLL_H
+#define AMQP1_EPOLL_H
 
 #include <amqp1.h>
 #include <stdio.h>

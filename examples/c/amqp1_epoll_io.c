@@ -1,6 +1,6 @@
-/* The bytes of the server: epoll, and the time. See amqp1_server.c. */
+/* The bytes of the server: epoll, and the time. See amqp1_epoll.c. */
 #define _GNU_SOURCE
-#include "amqp1_server.h"
+#include "amqp1_epoll.h"
 #include <errno.h>
 #include <netinet/in.h>
 #include <sys/epoll.h>
@@ -121,7 +121,7 @@ static void accept_one(void)
         return;
     p->fd = fd;
     if (getrandom(key, sizeof key, 0) != sizeof key ||
-        told(p, "an open's text", amqp1_write_open(text, sizeof text, &length, "amqp1_server", NULL, 65536, 255, 0)) ||
+        told(p, "an open's text", amqp1_write_open(text, sizeof text, &length, "amqp1_epoll", NULL, 65536, 255, 0)) ||
         told(p, "an engine", amqp1_start_server(&p->engine, key, now(), 20000, "ANONYMOUS", text, length)) ||
         told(p, "an open", amqp1_open(&p->engine)))
         abort();
@@ -187,7 +187,7 @@ static void listen_on(const char *port)
     listening = socket(AF_INET, SOCK_STREAM | SOCK_NONBLOCK, 0);
     setsockopt(listening, SOL_SOCKET, SO_REUSEADDR, &one, sizeof one);
     if (bind(listening, (struct sockaddr *)&address, sizeof address) || listen(listening, 16)) {
-        perror("amqp1_server");
+        perror("amqp1_epoll");
         exit(1);
     }
     epoll_ctl(poll_fd, EPOLL_CTL_ADD, listening, &event);
