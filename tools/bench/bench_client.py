@@ -1,20 +1,27 @@
 #!/usr/bin/env python3
-"""Times the client of the Python package beside qpid-proton's for Python: processor time of the client's process, for a
-message of 64 bytes.
+"""Times the client of the Python package beside qpid-proton's for Python and uAMQP: processor time of the client's
+process, for a message of 64 bytes.
 
-    tools/bench/bench_client.py PORT [COUNT]
+    tools/bench/bench_client.py [PORT] [COUNT]
 
-On loopback PORT has to listen a broker that takes anonymous clients, as qpid-proton's example in C++. Each row is the
-median of five slopes between COUNT messages and a fifth of them, so that what is done once is in none: messages sent
-and settled by the broker, in tasks of which 100 wait at a time, and one after the other; and received and accepted.
-AMQP_LIBRARY names the library; the other side is Debian's `python3-qpid-proton`, run by /usr/bin/python3, which runs
-both.
+On loopback PORT has to listen a broker that takes anonymous clients, as qpid-proton's example in C++; without a PORT,
+or with 0, that one is built, and started for each row. Each row is the median of five slopes between COUNT messages
+and a fifth of them, so that what is done once is in none: messages sent and settled by the broker, of which 100 wait
+at a time, and one after the other; and received and accepted. uAMQP connects by TLS alone: so two rows go by TLS, for
+all three, by tls_front.py before the same broker. AMQP_LIBRARY names the library; the others are Debian's
+`python3-qpid-proton` and `python3-uamqp`, run by /usr/bin/python3, which runs all three. Behind each figure stand the
+lines of the function that was timed, without empty ones: in client_ours.py, client_proton.py and client_uamqp.py.
 """
 
 import asyncio
+import contextlib
+import importlib
+import inspect
+import socket
 import statistics
 import subprocess
 import sys
+import tempfile
 import time
 from pathlib import Path
 
@@ -24,189 +31,141 @@ sys.path.insert(0, str(ROOT / "bindings" / "python"))
 
 from shared.command import command
 
-PAYLOAD = b"x" * 64
-AT_ONCE = 100
-
-
-# ---- ours
-
-
-async def ours_send(url, address, count):
-    from amqp_engine import Message, connect
-
-    async with connect(url) as connection, connection.sender(address) as sender:
-        left = iter(range(count))
-
-        async def sends():
-            for _ in left:
-                await sender.send(Message(PAYLOAD))
-
-        await asyncio.gather(*(sends() for _ in range(AT_ONCE)))
-
-
-async def ours_send_one(url, address, count):
-    from amqp_engine import Message, connect
-
-    async with connect(url) as connection, connection.sender(address) as sender:
-        for _ in range(count):
-            await sender.send(Message(PAYLOAD))
-
-
-async def ours_receive(url, address, count):
-    from amqp_engine import connect
-
-    async with connect(url) as connection, connection.receiver(address, credit=2 * AT_ONCE) as receiver:
-        for _ in range(count):
-            delivery = await receiver.receive()
-            assert delivery.message.body == PAYLOAD
-            await delivery.accept()
-
-
-def ours_blocking_send(url, address, count):
-    from amqp_engine import Message, blocking
-
-    with blocking.connect(url) as connection, connection.sender(address) as sender:
-        for _ in range(count):
-            sender.send(Message(PAYLOAD))
-
-
-def ours_blocking_receive(url, address, count):
-    from amqp_engine import blocking
-
-    with blocking.connect(url) as connection, connection.receiver(address, credit=2 * AT_ONCE) as receiver:
-        for _ in range(count):
-            delivery = receiver.receive()
-            assert delivery.message.body == PAYLOAD
-            delivery.accept()
-
-
-# ---- qpid-proton's
-
-
-def proton_send(url, address, count):
-    from proton import Message
-    from proton.handlers import MessagingHandler
-    from proton.reactor import Container
-
-    class Sends(MessagingHandler):
-        sent = accepted = 0
-
-        def on_start(self, event):
-            connection = event.container.connect(url, allowed_mechs="ANONYMOUS")
-            self.sender = event.container.create_sender(connection, address)
-
-        def on_sendable(self, event):
-            while self.sender.credit and self.sent < count and self.sent - self.accepted < AT_ONCE:
-                self.sender.send(Message(PAYLOAD))
-                self.sent += 1
-
-        def on_accepted(self, event):
-            self.accepted += 1
-            self.on_sendable(event)
-            if self.accepted == count:
-                event.connection.close()
-
-    Container(Sends()).run()
-
-
-def proton_receive(url, address, count):
-    from proton.handlers import MessagingHandler
-    from proton.reactor import Container
-
-    class Receives(MessagingHandler):
-        came = 0
-
-        def __init__(self):
-            super().__init__(prefetch=2 * AT_ONCE)
-
-        def on_start(self, event):
-            connection = event.container.connect(url, allowed_mechs="ANONYMOUS")
-            event.container.create_receiver(connection, address)
-
-        def on_message(self, event):
-            assert bytes(event.message.body) == PAYLOAD
-            self.came += 1
-            if self.came == count:
-                event.connection.close()
-
-    Container(Receives()).run()
-
-
-def proton_blocking_send(url, address, count):
-    from proton import Message
-    from proton.utils import BlockingConnection
-
-    connection = BlockingConnection(url, allowed_mechs="ANONYMOUS")
-    sender = connection.create_sender(address)
-    for _ in range(count):
-        sender.send(Message(PAYLOAD))
-    connection.close()
-
-
-def proton_blocking_receive(url, address, count):
-    from proton.utils import BlockingConnection
-
-    connection = BlockingConnection(url, allowed_mechs="ANONYMOUS")
-    receiver = connection.create_receiver(address, credit=2 * AT_ONCE)
-    for _ in range(count):
-        message = receiver.receive()
-        assert bytes(message.body) == PAYLOAD
-        receiver.accept()
-    connection.close()
-
-
+EXAMPLES = Path("/usr/share/proton/examples/cpp")
+HEAD = "| microseconds of processor time a message; lines | ours | qpid-proton | uAMQP |\n|---|---|---|---|"
 ROWS = [
-    ("sent and settled, 100 at a time", "ours_send", "proton_send"),
-    ("received and accepted", "ours_receive", "proton_receive"),
-    ("sent and settled, one after the other", "ours_send_one", "proton_blocking_send"),
-    ("the same by `blocking`", "ours_blocking_send", "proton_blocking_send"),
-    ("received and accepted by `blocking`", "ours_blocking_receive", "proton_blocking_receive"),
+    ("sent and settled, 100 at a time", "ours.send", "proton.send"),
+    ("received and accepted", "ours.receive", "proton.receive"),
+    ("sent and settled, one after the other", "ours.send_one", "proton.blocking_send"),
+    ("the same by `blocking`", "ours.blocking_send", "proton.blocking_send"),
+    ("received and accepted by `blocking`", "ours.blocking_receive", "proton.blocking_receive"),
+]  # fmt: skip
+BY_TLS = [
+    ("by TLS: sent and settled, 100 at a time", "ours.send", "proton.send", "uamqp.send"),
+    ("by TLS: received and accepted", "ours.receive", "proton.receive", "uamqp.receive"),
 ]  # fmt: skip
 
 
-def run_here(name, port, address, count):
+def function(name):
+    side, what = name.split(".")
+    return getattr(importlib.import_module(f"bench.client_{side}"), what)
+
+
+def lines(name):
+    return sum(bool(line.strip()) for line in inspect.getsource(function(name)).splitlines())
+
+
+def run_here(name, url, address, count, ca):
     """Does it in this process, and prints the processor time."""
-    what = globals()[name]
-    url = f"amqp://127.0.0.1:{port}/" if name.startswith("ours") else f"amqp://127.0.0.1:{port}"
-    start = time.process_time()
-    it = what(url, address, count)
+    what, start = function(name), time.process_time()
+    it = what(url, address, count, ca)
     if it is not None:
         asyncio.run(it)
     print(time.process_time() - start)
 
 
-def timed(name, port, address, count):
-    """The processor time of a process that does it."""
-    words = ["/usr/bin/python3", __file__, "--run", name, str(port), address, str(count)]
-    done = subprocess.run(words, capture_output=True, text=True, timeout=300)
-    if done.returncode:
-        sys.exit(f"{name}: {done.stderr[-500:]}")
-    return float(done.stdout.split()[-1])
+class Server:
+    """Where the broker is, and by which way it is reached."""
+
+    def __init__(self, port, ca=None):
+        scheme, host = ("amqps", "localhost") if ca else ("amqp", "127.0.0.1")
+        self.url, self.ca = f"{scheme}://{host}:{port}/", ca or ""
+
+    def timed(self, name, address, count):
+        """The processor time of a process that does it."""
+        words = ["/usr/bin/python3", __file__, "--run", name, self.url, address, str(count), self.ca]
+        done = subprocess.run(words, capture_output=True, text=True, timeout=600)
+        if done.returncode:
+            sys.exit(f"{name}: {done.stderr[-500:]}")
+        return float(done.stdout.split()[-1])
+
+    def slope(self, name, count):
+        """Microseconds for a message. What is received was sent before."""
+        few, times = count // 5, []
+        address = f"amqps://localhost/bench-{name}"  # a whole URL, as uAMQP writes it
+        for many in (few, count):
+            if name.endswith("receive"):
+                self.timed("ours.send", address, many)
+            times.append(self.timed(name, address, many))
+        return 1e6 * (times[1] - times[0]) / (count - few)
+
+    def row(self, title, names, count):
+        """The sides take turns, so that what else the machine does is the same for all."""
+        rounds = [[self.slope(name, count) for name in names] for _ in range(5)]
+        medians = [statistics.median(it) for it in zip(*rounds)]
+        cells = [f"{median:.0f}; {lines(name)}" for median, name in zip(medians, names)]
+        print(f"| {title} |" + "".join(f" {it} |" for it in (cells + [""])[:3]), flush=True)
 
 
-def slope(name, port, count):
-    """Microseconds for a message. What is received was sent before."""
-    few, times = count // 5, []
-    address = f"bench-{name}"
-    for many in (few, count):
-        if name.endswith("receive"):
-            timed("ours_send", port, address, many)
-        times.append(timed(name, port, address, many))
-    return 1e6 * (times[1] - times[0]) / (count - few)
+@contextlib.contextmanager
+def stopped(process):
+    with process:
+        try:
+            yield process
+        finally:
+            process.kill()
+
+
+def free_port():
+    with socket.socket() as it:
+        it.bind(("127.0.0.1", 0))
+        return it.getsockname()[1]
+
+
+def listens(port):
+    with socket.socket() as it:
+        return it.connect_ex(("127.0.0.1", port)) == 0
+
+
+def build_broker(folder):
+    """qpid-proton's example in C++, which sends unsettled what came."""
+    built, flags = Path(folder, "broker"), [f"-I{EXAMPLES}", "-lqpid-proton-cpp", "-lpthread"]
+    subprocess.run(["g++", "-std=c++17", "-O1", EXAMPLES / "broker.cpp", "-o", built, *flags], check=True)
+    return built
+
+
+@contextlib.contextmanager
+def started(program):
+    """A broker of its own, since what is sent and not received stays there: its port."""
+    port = free_port()
+    with stopped(subprocess.Popen([program, "-a", f"127.0.0.1:{port}"], stdout=subprocess.DEVNULL)) as broker:
+        while not listens(port) and broker.poll() is None:
+            time.sleep(0.1)
+        yield port
+
+
+@contextlib.contextmanager
+def tls_front(port):
+    """Before the server at this port: its own port, and what a client trusts."""
+    words = ["/usr/bin/python3", ROOT / "tools" / "bench" / "tls_front.py", str(port)]
+    with stopped(subprocess.Popen(words, stdin=subprocess.PIPE, stdout=subprocess.PIPE, text=True)) as front:
+        found, ca = front.stdout.readline().split()
+        yield Server(found, ca)
+
+
+def measure(broker, count):
+    """`broker` has a port for each row."""
+    print(HEAD)
+    for title, *names in ROWS:
+        with broker() as port:
+            Server(port).row(title, names, count)
+    for title, *names in BY_TLS:
+        with broker() as port, tls_front(port) as server:
+            server.row(title, names, count)
 
 
 def main():
     if sys.argv[1:2] == ["--run"]:
-        return run_here(sys.argv[2], int(sys.argv[3]), sys.argv[4], int(sys.argv[5]))
-    if len(sys.argv) not in (2, 3):
+        name, url, address, count, ca = sys.argv[2:]
+        return run_here(name, url, address, int(count), ca or None)
+    if len(sys.argv) > 3:
         sys.exit(__doc__.strip())
-    port, count = int(sys.argv[1]), int((sys.argv[2:] or ["10000"])[0])
-    print("| microseconds of processor time a message | ours | qpid-proton |\n|---|---|---|")
-    for title, ours, proton in ROWS:
-        # the two take turns, so that what else the machine does is the same for both
-        pairs = [(slope(ours, port, count), slope(proton, port, count)) for _ in range(5)]
-        medians = [statistics.median(it[side] for it in pairs) for side in (0, 1)]
-        print(f"| {title} | {medians[0]:.0f} | {medians[1]:.0f} |", flush=True)
+    port, count = [int(it) for it in sys.argv[1:] + ["0", "10000"][len(sys.argv) - 1 :]]
+    if port:
+        return measure(lambda: contextlib.nullcontext(port), count)
+    with tempfile.TemporaryDirectory() as folder:
+        program = build_broker(folder)
+        measure(lambda: started(program), count)
 
 
 if __name__ == "__main__":
