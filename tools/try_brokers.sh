@@ -71,7 +71,7 @@ start_rabbitmq() {
         'auth_mechanisms.1 = PLAIN' 'auth_mechanisms.2 = AMQPLAIN' 'auth_mechanisms.3 = EXTERNAL' 'ssl_cert_login_from = common_name' \
         "ssl_options.cacertfile = $keys/ca.pem" "ssl_options.certfile = $keys/localhost.pem" "ssl_options.keyfile = $keys/localhost.key" \
         'ssl_options.verify = verify_peer' 'ssl_options.fail_if_no_peer_cert = true' >"$home/rabbitmq.conf"
-    echo '[rabbitmq_amqp1_0,rabbitmq_auth_mechanism_ssl].' >"$home/enabled_plugins"
+    echo '[rabbitmq_amqp1_0,rabbitmq_auth_mechanism_ssl,rabbitmq_shovel].' >"$home/enabled_plugins"
     run_rabbitmq || return 1
     echo "== RabbitMQ $(dpkg-query -f '${Version}' -W rabbitmq-server)"
 }
@@ -143,6 +143,7 @@ export AMQP_LIBRARY=$prefix/lib/libamqp1.so
 . tools/try_live.sh
 . tools/try_live_each.sh
 . tools/try_live_durable.sh
+. tools/try_live_shovel.sh
 . tools/try_live_modes.sh
 build_live
 build_live_durable
@@ -224,6 +225,7 @@ fi
 if started start_rabbitmq; then
     [ -n "$small" ] || try_rabbitmq
     try_live_rabbitmq
+    try_live_shovels
     tried durable rmq "0 1 2" localhost "$rabbitmq" /queue/durable guest guest
     try_live_modes_rabbitmq
     tried outlasted
