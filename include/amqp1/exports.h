@@ -12,7 +12,7 @@
 extern "C" {
 #endif
 
-/* What amqp1_call is asked to do. Each has a function in calls.h, which says what it takes and gives. 1, 17, 22 and 26 are none. */
+/* What amqp1_call is asked to do. Each has a function in a header of calls.h, which says what it takes and gives. 1, 17, 22 and 26 are none. */
 enum amqp1_operation {
     AMQP1_OPEN = 2,
     AMQP1_CLOSE = 3,
@@ -93,15 +93,15 @@ enum amqp1_rcv_settle_mode { AMQP1_FIRST = 0, AMQP1_SECOND = 1 };
 
    `logins` are the sizes of a client's logins, in the order in which it prefers them, or of the mechanisms that a server offers, at least one, whose
    `response` is AMQP1_NONE. `bytes` has first the host, then each mechanism and its response, one after the other, and no more. Without SASL there
-   are neither. calls.h puts these together: amqp1_start, amqp1_start_client, amqp1_start_by, amqp1_start_server.
+   are neither. start.h puts these together: amqp1_start, amqp1_start_client, amqp1_start_by, amqp1_start_server.
 
    DONE; else NO_MEMORY, and the place stays empty; BAD_ARGUMENT where what is said is another, as a mechanism that is not ASCII, a host that is not
    UTF-8, or sizes that are not those of the bytes; where all bytes of the key are zero; and where an engine lies in the place already: it stays. */
 int32_t amqp1_new(amqp1 *place, const amqp1_how *how, const uint8_t *open, size_t open_length, const amqp1_login_head *logins, size_t logins_length,
                   const uint8_t *bytes, size_t bytes_length);
 
-/* Has the engine do one operation. `written` gets how much of the output was written, or how much is needed (TOO_SMALL). calls.h has a function for
-   each. BAD_ARGUMENT where there is no such operation, or the input is none of its. */
+/* Has the engine do one operation. `written` gets how much of the output was written, or how much is needed (TOO_SMALL). The headers of calls.h have
+   a function for each. BAD_ARGUMENT where there is no such operation, or the input is none of its. */
 int32_t amqp1_call(amqp1 *place, uint32_t operation, const uint8_t *input, size_t input_length, uint8_t *output, size_t output_length,
                    size_t *written);
 

@@ -15,7 +15,7 @@ from pathlib import Path
 
 HEADERS = Path(__file__).resolve().parents[2] / "include" / "amqp1"
 # Those of the headers that have functions
-NAMES = ["attach", "calls", "exports", "links", "read", "trace", "write"]
+NAMES = "asking attach deliveries exports links read sessions start states trace write".split()
 HEADER = b"AMQP\0\1\0\0"
 SENT = bytes.fromhex("0000001b02000000005310c00e04a1026d654070000100006000ff")
 OPENED = bytes.fromhex("0000001a02000000005310c00d03a10470656572407000000400")
