@@ -181,10 +181,13 @@ try_live_rabbitmq() {
 }
 
 # RabbitMQ is killed in the middle of 10,000 messages, and started again: the sender goes on by a new connection, and
-# each message that it was told to be settled is there for qpid-proton's client, as the others are.
+# each message that it was told to be settled is there for qpid-proton's client, as the others are. The queue is made
+# before: RabbitMQ answers while it is in memory alone, and a kill soon after takes it away with all that is in it.
 outlasted() {
     local sends
     echo "examples/cpp/resend.cpp with rmq, which is killed:"
+    AMQP1_DURABLE=2 timeout 60 "$folder/durable" localhost "$rabbitmq" /queue/resend 1 guest guest &&
+        of_rabbitmq purge_queue resend && sleep 3 || return 1
     : >"$folder/resent.err"
     timeout 300 "$folder/cpp/resend" localhost "$rabbitmq" /queue/resend 10000 guest guest >"$folder/resent" 2>"$folder/resent.err" &
     sends=$!
