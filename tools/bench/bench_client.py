@@ -97,15 +97,6 @@ class Server:
         print(f"| {title} |" + "".join(f" {it} |" for it in (cells + [""])[:3]), flush=True)
 
 
-@contextlib.contextmanager
-def stopped(process):
-    with process:
-        try:
-            yield process
-        finally:
-            process.kill()
-
-
 def free_port():
     with socket.socket() as it:
         it.bind(("127.0.0.1", 0))
@@ -128,17 +119,20 @@ def build_broker(folder):
 def started(program):
     """A broker of its own, since what is sent and not received stays there: its port."""
     port = free_port()
-    with stopped(subprocess.Popen([program, "-a", f"127.0.0.1:{port}"], stdout=subprocess.DEVNULL)) as broker:
-        while not listens(port) and broker.poll() is None:
-            time.sleep(0.1)
-        yield port
+    with subprocess.Popen([program, "-a", f"127.0.0.1:{port}"], stdout=subprocess.DEVNULL) as broker:
+        try:
+            while not listens(port) and broker.poll() is None:
+                time.sleep(0.1)
+            yield port
+        finally:
+            broker.kill()
 
 
 @contextlib.contextmanager
 def tls_front(port):
-    """Before the server at this port: its own port, and what a client trusts."""
+    """Before the server at this port: where it is, and what a client trusts. It ends with its standard input."""
     words = ["/usr/bin/python3", ROOT / "tools" / "bench" / "tls_front.py", str(port)]
-    with stopped(subprocess.Popen(words, stdin=subprocess.PIPE, stdout=subprocess.PIPE, text=True)) as front:
+    with subprocess.Popen(words, stdin=subprocess.PIPE, stdout=subprocess.PIPE, text=True) as front:
         found, ca = front.stdout.readline().split()
         yield Server(found, ca)
 
