@@ -4,7 +4,10 @@
 # broker in Python; and tools/watch.py looks on. All are Debian's packages, which it installs where they are missing (as root). Each peer is
 # started in a folder of its own and stopped at the end. It is no part of the gate. The last line is 'N passed, M failed'.
 #
-# The small programs in examples/c, those in examples/cpp, and those of bindings/rust (tools/try_live.sh), are tried with all of these and with uAMQP: by PLAIN, by ANONYMOUS, and, with RabbitMQ, by EXTERNAL over TLS.
+# The small programs in examples/c, those in examples/cpp, and those of bindings/rust, are tried with all of these and
+# with uAMQP (tools/try_live.sh): by PLAIN, by ANONYMOUS, over TLS too, and, with RabbitMQ, by EXTERNAL over TLS. Beside
+# it stand what is tried in the same way in each language (try_live_each.sh), durable targets (try_live_durable.sh), the
+# servers with RabbitMQ's shovel (try_live_shovel.sh), and settle modes (try_live_modes.sh).
 #
 #     tools/try_brokers.sh           tries all
 #     tools/try_brokers.sh --small   tries the small programs alone, which needs no more than the library
