@@ -74,7 +74,7 @@ def as_program(crate):
 
 def copied(folder):
     """The crates in a folder, where that of the library is a program."""
-    shutil.copytree(ROOT / "crates", folder / "crates", ignore=shutil.ignore_patterns("out", "mutants", "captures"))
+    shutil.copytree(ROOT / "crates", folder / "crates", ignore=shutil.ignore_patterns("out", "mutants"))
     crates = (ROOT / "crates.txt").read_text()
     (folder / "crates.txt").write_text(crates.replace("amqp1 staticlib:", "amqp1:"))
     shutil.copyfile(ROOT / "HANDLES", folder / "HANDLES")
