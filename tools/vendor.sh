@@ -3,6 +3,7 @@
 #
 #     tools/vendor.sh DEST             fe2o3_amqp: the engine
 #     tools/vendor.sh DEST CRATE ..    as amqp_transport and amqp_endpoints: a reader and a writer around a stream, and links
+#     tools/vendor.sh DEST example_client   a client to copy, with both of these and all else that it stands on
 #
 # Each crate's folder is copied to DEST/crates/NAME (DEST/NAME where DEST has a crates.txt and no folder crates/), its line is put into
 # DEST/crates.txt, the licences and NOTICE go into DEST/licences-amqp, and HANDLES is written where there is none. Copied, since the toolchain

@@ -1,6 +1,7 @@
 #!/usr/bin/env bash
 # Puts the libraries into a new repository by vendor.sh, beside a program of a few lines, and has `rt try` run it, with no proof. Then it puts
-# them there again, and over what is not its own. The last line is 'N passed, M failed'.
+# them there again, and over what is not its own; and the client of crates/example_client, which `rt try` runs too. A proof of it there would
+# take that of the libraries. The last line is 'N passed, M failed'.
 #
 #     tools/gate/try_vendor.sh
 set -euo pipefail
@@ -53,6 +54,14 @@ print("out 02000000" + composite(0x10, [string("user"), b"\x40", uint(65536), us
 
 runs() {
     (cd "$dest/crates/user" && rt try </dev/null) >"$dest/printed" && diff <(wanted) "$dest/printed"
+}
+
+# The client that is put there, over what a server is recorded to send: it sends what it has to, and says of each message that it was accepted.
+client_runs() {
+    local crate=$1/crates/example_client words
+    mapfile -t words <"$crate/args"
+    (cd "$crate" && rt try -- "${words[@]}" <stdin) >"$dest/sent" 2>"$dest/came" || { cat "$dest/came" && return 1; }
+    cmp "$crate/stdout" "$dest/sent" && grep -x 'Ended .*: 4 sent, 4 accepted' "$dest/came"
 }
 
 mkdir -p "$dest/crates/user/src"
@@ -113,6 +122,9 @@ links=$dest/links
 holds "links and a transport are put there, with all that they stand on" tools/vendor.sh "$links" amqp_endpoints amqp_transport
 holds "these are among them" ls -d "$links"/crates/{amqp_endpoints,amqp_transport,amqp_driver,amqp_links,amqp_events,amqp_sasl,amqp_idle,fe2o3_amqp}
 holds "each has a line behind those that it stands on" stand_in_order "$links/crates.txt"
+holds "a client is put there too" tools/vendor.sh "$links" example_client
+holds "its line stands behind theirs" stand_in_order "$links/crates.txt"
+holds "it runs unproved, sends what it has to, and says what came" client_runs "$links"
 holds "a crate that is none is refused" eval '! tools/vendor.sh "$dest/none" amqp_nothing'
 echo "$passed passed, $failed failed"
 [ "$failed" = 0 ]

@@ -22,7 +22,7 @@ PAGES = [ROOT / "docs" / "READING.md", ROOT / "docs" / "WRONG_BODIES.md", ROOT /
 
 def stored():
     """What is stored of the files that such tools write."""
-    files = [*ROOT.glob("crates/*/stdin"), *ROOT.glob("crates/*/stdout"), *ROOT.glob("tools/try_c/rows/*"), *ROOT.glob("crates/*/specs/**/*.antt"), *PAGES, *plotted()]
+    files = [*ROOT.glob("crates/*/stdin"), *ROOT.glob("crates/*/stdout"), *ROOT.glob("crates/*/args"), *ROOT.glob("tools/try_c/rows/*"), *ROOT.glob("crates/*/specs/**/*.antt"), *PAGES, *plotted()]
     return {file: file.read_bytes() for file in files if file.exists()}
 
 
