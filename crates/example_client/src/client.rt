@@ -222,7 +222,10 @@ impl Client {
 
     /// Sends a message, in as many transfers as it takes. Whether the link has credit for it.
     fn send(&mut self, link: u32, at: usize) -> anyhow::Result<bool> {
-        let bytes = message(self.alloc, at as u32, self.messages[at].as_str())?;
+        let Some(text) = self.messages.get(at) else {
+            return Ok(false);
+        };
+        let bytes = message(self.alloc, u32::try_from(at)?, text.as_str())?;
         let mut rest = bytes.as_slice();
         let mut head = head(link, rest.len());
         for _ in 0..=bytes.len() {
