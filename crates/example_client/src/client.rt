@@ -3,7 +3,7 @@
 ghost use Rattle.std.specs.Prelude.{◌≡◌, OnOk, length};
 
 use crate::message::{head, message, source, target};
-use amqp_driver::{Asked, PlainRelay, Record, Status, Stream, TransferHead, answers, kind};
+use amqp_driver::{Asked, PlainRelay, Record, Status, Stream, TransferHead, answers, flag, kind};
 use amqp_endpoints::{LinkEvent, SendFailure, SessionEndpoint};
 use amqp_events::Policy;
 use amqp_links::{SendError, SendPartError};
@@ -120,6 +120,7 @@ impl Client {
     /// Connection, session and link are made one after the other, and ended the other way round.
     fn take(&mut self, rt: &HostRuntime, record: &Record) -> anyhow::Result<()> {
         let input = self.received.bytes();
+        say_error(rt, record, input)?;
         drop(self.stream.answer(record, input, ANSWERS, SESSION));
         match record.kind {
             kind::OPENED => self.ask(Input::Begin(SESSION, SessionSettings::default())),
@@ -253,6 +254,19 @@ impl Client {
             Err(failure) => bail!("not sent: {failure:?}"),
         }
     }
+}
+
+/// Says why the server ends a link, the session or the connection, or why its frame was refused. The text of an error stands in the frame.
+fn say_error(rt: &HostRuntime, record: &Record, input: &[u8]) -> anyhow::Result<()> {
+    if record.refusal != 0 {
+        eprintln!(rt; "refused: {}", record.refusal)?;
+    }
+    if flag::is_set(record.flags, flag::WITH_ERROR) {
+        let at = record.at as usize;
+        let frame = input.get(at..at + record.size as usize);
+        eprintln!(rt; "ended: {}", frame.unwrap_or(&[]).escape_ascii())?;
+    }
+    Ok(())
 }
 
 /// What comes behind the tag and the payload of a part.
