@@ -22,7 +22,7 @@ from shared.command import command
 
 ROOT = Path(__file__).resolve().parents[2]
 SOURCE = Path(__file__).with_suffix(".rt.txt")
-NAME, BELOW = "bench_links", ["amqp_memory", "amqp_blocks", "amqp_credit", "amqp_unsettled", "amqp_links"]
+NAME, BELOW = "bench_links", ["amqp_memory", "amqp_credit", "amqp_unsettled", "amqp_links"]
 # Of deliveries that go on, and of those that were open and are settled
 ON, OF_OPEN = (1000, 2000), (100, 400)
 OPEN = 1000

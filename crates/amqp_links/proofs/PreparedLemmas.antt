@@ -4,7 +4,7 @@ use Rattle.std.proofs.lemmas.Bool.{eqb-true, eq-eqb}
 use Rattle.amqp_unsettled.specs.declared.entry.Entry.{Entry}
 use Rattle.amqp_unsettled.specs.Serial.{is_after}
 use Rattle.amqp_unsettled.specs.Table.{has_number, without_first}
-use Rattle.amqp_unsettled.proofs.ListLemmas.{Each}
+use Rattle.amqp_unsettled.specs.Inner.Order.{Each}
 use Rattle.amqp_unsettled.proofs.NextLemmas.{each_passes}
 use Rattle.amqp_unsettled.proofs.TableLemmas.{after_other}
 use Rattle.amqp_links.specs.declared.end.End.{End}

@@ -3,6 +3,7 @@ use Rattle.std.proofs.Common.{◌≡◌, ℕ, ◌+◌, ◌<◌, ◌^◌, arith, 
 use Rattle.std.proofs.Common.{ap, sym, subst, ◌∙◌, refl, cond, not, ◌||◌, Bool, true, false, Option, Some, None, Ok}
 use Rattle.std.proofs.Common.{Err}
 use Rattle.std.specs.List.{filter, find, list_any}
+use Rattle.amqp_unsettled.specs.Inner.Order.{Each}
 use Rattle.amqp_unsettled.specs.declared.entry.Entry.{Entry}
 use Rattle.amqp_unsettled.specs.declared.entry.InsertError.TheVariants.{NotNext, OutOfMemory}
 use Rattle.amqp_unsettled.specs.Chain.{Chain}
@@ -12,7 +13,7 @@ use Rattle.amqp_unsettled.specs.History.{given_in, gives_back, unless_given, uns
 use Rattle.amqp_unsettled.specs.History.{Inserts, Removes, RemovesOldest, Settles, Leaves, Gets, Finds, AsksCount}
 use Rattle.amqp_unsettled.specs.History.{AsksLen, AsksEmpty}
 use Rattle.amqp_unsettled.specs.Laws.{InOrder}
-use Rattle.amqp_unsettled.proofs.ListLemmas.{Each, each_without, not_found, filter_append}
+use Rattle.amqp_unsettled.proofs.ListLemmas.{each_without, not_found, filter_append}
 use Rattle.amqp_unsettled.proofs.TableLemmas.{Small, is_not_given, filter_all, counted_apart, only_one}
 use Rattle.amqp_unsettled.proofs.TableLemmas.{in_order_without, in_order_end, small_end}
 

@@ -1,159 +1,228 @@
--- The entries and the numbers of each link: what follows of the lists, and what an entry that goes leaves.
-use Rattle.std.proofs.Common.{◌≡◌, ℕ, suc, ◌^◌, ◌<◌, ◌≤◌, arith, List, ◌∷◌, ◌++◌, length, take, drop, map}
-use Rattle.std.proofs.Common.{ap, sym, subst, ◌∙◌, refl, Bool, true, false, true≢false, Option, Some, None, IsSome}
-use Rattle.std.specs.Prelude.{slice_get, option_map, is_some}
+-- The entries and the numbers of each link: an entry comes, or goes.
+use Rattle.std.proofs.Common.{◌≡◌, ℕ, ◌^◌, ◌<◌, arith, List, [], ◌∷◌, ◌++◌, length, drop, map, append-nil}
+use Rattle.std.proofs.Common.{ap, sym, subst, ◌∙◌, refl, cond, Bool, true, false, true≢false, Option, Some, None}
+use Rattle.std.specs.Prelude.{slice_get, option_map}
 use Rattle.std.specs.List.{filter, find}
-use Rattle.std.proofs.lemmas.List.{take-append-drop}
-use Rattle.amqp_blocks.specs.Chunked.{Sequence}
+use Rattle.std.proofs.lemmas.List.{map-append, length-append}
 use Rattle.amqp_unsettled.specs.declared.entry.Entry.{Entry}
-use Rattle.amqp_unsettled.specs.Serial.{distance}
-use Rattle.amqp_unsettled.specs.Table.{has_number, is_of, count_of, without_first}
-use Rattle.amqp_unsettled.specs.Inner.Order.{AsBefore, Loses, Below, IsRising, IsKept, entry_far, is_number}
-use Rattle.amqp_unsettled.specs.Inner.Order.{numbers_of, numbers_in}
-use Rattle.amqp_unsettled.proofs.ListLemmas.{NonePasses, each_map, not_found, found_at, each_without}
-use Rattle.amqp_unsettled.proofs.OrderLemmas.{mapped_length, below_each, each_below, each_before_item, rising_without}
-use Rattle.amqp_unsettled.proofs.OrderLemmas.{few_rising, same_found}
-use Rattle.amqp_unsettled.proofs.PlaceLemmas.{from_item}
+use Rattle.amqp_unsettled.specs.Serial.{is_after}
+use Rattle.amqp_unsettled.specs.Table.{has_number, is_of, is_next, without_first}
+use Rattle.amqp_unsettled.specs.Inner.Order.{Each, NonePasses, Below}
+use Rattle.amqp_unsettled.specs.Inner.Rows.{Row, IsBefore, InSerial, comes_next}
+use Rattle.amqp_unsettled.specs.Inner.Lists.{AsBefore, Gains, Loses, IsKept, is_number, numbers_of, numbers_in}
+use Rattle.amqp_unsettled.proofs.ListLemmas.{each_map, each_filter, each_mapped, not_found, found_passes}
+use Rattle.amqp_unsettled.proofs.NextLemmas.{all_pass, each_passes, is_after_parts, serial_end, small_end}
 use Rattle.amqp_unsettled.proofs.NumberLemmas.{equal_test, other_test, test_equal}
-use Rattle.amqp_unsettled.proofs.LinkLemmas.{numbers_append, numbers_own, numbers_other, numbers_few, numbers_rising}
-use Rattle.amqp_unsettled.proofs.LinkLemmas.{numbers_first, numbers_none, first_after}
+use Rattle.amqp_unsettled.proofs.LinkLemmas.{numbers_append, numbers_own, numbers_other, numbers_first, numbers_none}
+use Rattle.amqp_unsettled.proofs.TakeLemmas.{first_after}
 
--- an entry's number finds it
-number_finds : (base : ℕ) (p : Entry → Bool) (es : List Entry) (e : Entry) → IsRising (map (entry_far base) es) →
-    find p es ≡ Some e →
-    (find (has_number e.number) es ≡ Some e) × (without_first (has_number e.number) es ≡ without_first p es)
-number_finds base p es e r found =
-    same_found (entry_far base) p (has_number e.number) es e r (equal_test e.number e.number refl)
-    (λ x far. other_test x.number e.number
-    (λ is. let same : entry_far base x ≡ entry_far base e = ap (distance base) is in omega (arith, far, same)))
-    found
+abbrev number : Entry → ℕ
+number e = e.number
 
-module _ (base : ℕ) (es : List Entry) (lists : List (Sequence ℕ)) (k : IsKept base es lists) where
-  pub few_kept : length es ≤ 2 ^ 31
-  few_kept = few_rising (entry_far base) (2 ^ 31) es k.rising k.half
+-- ---- an entry comes
 
-  -- ---- the list of a link
+module _ (es : List Entry) (lists : List (Row ℕ)) (k : IsKept es lists) where
+  pub kept_same : (new : List (Row ℕ)) → AsBefore lists new → IsKept es new
+  kept_same new h = record { small = k.small; serial = k.serial; same = λ link. h link ∙ k.same link }
 
-  pub list_few : (link : ℕ) → length (numbers_of lists link) ≤ 2 ^ 31
-  list_few link =
-      let same = ap length (k.same link) in
-      let few = numbers_few link es in
-      let all = few_kept in
-      omega (arith, same, few, all)
+  -- a number that may come next may come next of each link
+  pub next_of_link : (n link : ℕ) → is_next n es ≡ true → comes_next (λ m. m) n (numbers_of lists link) ≡ true
+  next_of_link n link next =
+      let all = each_passes (λ (e : Entry). is_after e.number n) es next in
+      ap (comes_next (λ m. m) n) (k.same link)
+      ∙ all_pass (λ m. is_after m n) (numbers_in link es)
+      (each_mapped number (λ m. is_after m n ≡ true) (filter (is_of link) es)
+      (each_filter (λ (e : Entry). is_after e.number n ≡ true) (is_of link) es all))
 
-  pub list_rising : (link : ℕ) → IsRising (map (distance base) (numbers_of lists link))
-  list_rising link = subst (λ ns. IsRising (map (distance base) ns)) (sym (k.same link))
-      (numbers_rising link base es k.rising)
+  module _ (e : Entry) (he : e.number < 2 ^ 32) (next : is_next e.number es ≡ true) (new : List (Row ℕ))
+      (gains : Gains e.number e.link lists new) where
+    same_end : (link : ℕ) → numbers_of new link ≡ numbers_in link (es ++ e ∷ [])
+    same_end link = by (is_of link e) refl
+      where
+        by : (t : Bool) → is_of link e ≡ t → numbers_of new link ≡ numbers_in link (es ++ e ∷ [])
+        by true t = subst (λ l. numbers_of new l ≡ numbers_in l (es ++ e ∷ [])) (test_equal e.link link t)
+            (gains.own ∙ ap (λ ns. ns ++ e.number ∷ []) (k.same e.link)
+            ∙ sym (numbers_append e.link es (e ∷ [])
+            ∙ ap (λ ns. numbers_in e.link es ++ ns) (numbers_own e.link e [] (equal_test e.link e.link refl))))
+        by false t = gains.others link (λ same. true≢false (sym (equal_test e.link link (sym same)) ∙ t))
+            ∙ k.same link
+            ∙ sym (numbers_append link es (e ∷ [])
+            ∙ ap (λ ns. numbers_in link es ++ ns) (numbers_other link e [] t)
+            ∙ append-nil (numbers_in link es))
 
-  pub list_counts : (link : ℕ) → length (numbers_of lists link) ≡ count_of link es
-  list_counts link = ap length (k.same link) ∙ mapped_length (λ (e : Entry). e.number) (filter (is_of link) es)
+    pub kept_end : IsKept (es ++ e ∷ []) new
+    kept_end = record {
+      small = subst (Below (2 ^ 32)) (sym (map-append number es (e ∷ []))) (small_end (2 ^ 32) e.number (map number es)
+          k.small he);
+      serial = subst InSerial (sym (map-append number es (e ∷ [])))
+          (serial_end e.number (map number es) k.serial
+          (each_mapped number (λ m. is_after m e.number ≡ true) es
+          (each_passes (λ (x : Entry). is_after x.number e.number) es next)));
+      same = same_end;
+    }
 
-  pub kept_same : (new : List (Sequence ℕ)) → AsBefore lists new → IsKept base es new
-  kept_same new h =
-      record { small = k.small; rising = k.rising; half = k.half; same = λ link. h link ∙ k.same link }
+-- ---- an entry goes
 
-  -- ---- the oldest of a link
+-- what is before the first that passes, and what is after it
+find_split : {X : Type 0} (p : X → Bool) (xs : List X) (x : X) → find p xs ≡ Some x →
+    (before : List X) × (after : List X) × (xs ≡ before ++ x ∷ after) × NonePasses p before
+find_split p [] x e = absurd (let n : (let n : Option _ = None in n) ≡ Some x = e in grind (arith, n))
+find_split {X} p (y ∷ ys) x e = by (p y) refl (λ rest. find_split p ys x rest)
+  where
+    by : (b : Bool) → p y ≡ b →
+        (find p ys ≡ Some x → (before : List X) × (after : List X) × (ys ≡ before ++ x ∷ after) × NonePasses p before) →
+        (before : List X) × (after : List X) × (y ∷ ys ≡ before ++ x ∷ after) × NonePasses p before
+    by true t on =
+        let is : Some y ≡ Some x = sym (ap (λ b. cond b (Some y) (find p ys)) t) ∙ e in
+        let same : y ≡ x = grind (arith, is) in
+        ([], ys, ap (λ z. z ∷ ys) same, tt)
+    by false t on =
+        let r = on (sym (ap (λ b. cond b (Some y) (find p ys)) t) ∙ e) in
+        (y ∷ r.0, r.1, ap (λ zs. y ∷ zs) r.2, (t, r.3))
 
-  link_first : (link : ℕ) → slice_get (numbers_of lists link) 0
-      ≡ option_map (λ (e : Entry). e.number) (find (is_of link) es)
-  link_first link = ap (λ ns. slice_get ns 0) (k.same link) ∙ numbers_first link es
+-- an entry's number is after those of the entries before it
+before_it : (n : ℕ) (e : Entry) (xs ys : List Entry) → IsBefore n (map number (xs ++ e ∷ ys)) → is_after n e.number ≡
+    true
+before_it n e [] ys b = b.0
+before_it n e (x ∷ xs) ys b = before_it n e xs ys b.1
 
-  pub link_none : (link : ℕ) → slice_get (numbers_of lists link) 0 ≡ None →
+all_before_it : (e : Entry) (xs ys : List Entry) → InSerial (map number (xs ++ e ∷ ys)) →
+    Each (λ (x : Entry). is_after x.number e.number ≡ true) xs
+all_before_it e [] ys s = tt
+all_before_it e (x ∷ xs) ys s = (before_it x.number e xs ys s.0, all_before_it e xs ys s.1)
+
+small_it : (e : Entry) (xs ys : List Entry) → Below (2 ^ 32) (map number (xs ++ e ∷ ys)) → e.number < 2 ^ 32
+small_it e [] ys s = s.0
+small_it e (x ∷ xs) ys s = small_it e xs ys s.1
+
+small_but : (e : Entry) (xs ys : List Entry) → Below (2 ^ 32) (map number (xs ++ e ∷ ys)) → Below (2 ^ 32) (map number
+    (xs ++ ys))
+small_but e [] ys s = s.1
+small_but e (x ∷ xs) ys s = (s.0, small_but e xs ys s.1)
+
+before_but : (n : ℕ) (e : Entry) (xs ys : List Entry) → IsBefore n (map number (xs ++ e ∷ ys)) → IsBefore n (map number
+    (xs ++ ys))
+before_but n e [] ys b = b.1
+before_but n e (x ∷ xs) ys b = (b.0, before_but n e xs ys b.1)
+
+serial_but : (e : Entry) (xs ys : List Entry) → InSerial (map number (xs ++ e ∷ ys)) → InSerial (map number (xs ++ ys))
+serial_but e [] ys s = s.1
+serial_but e (x ∷ xs) ys s = (before_but x.number e xs ys s.0, serial_but e xs ys s.1)
+
+module _ (es : List Entry) (lists : List (Row ℕ)) (k : IsKept es lists) (p : Entry → Bool) where
+  pub kept_none : find p es ≡ None → IsKept (without_first p es) lists
+  kept_none none = subst (λ xs. IsKept xs lists) (sym (not_found p es none)) k
+
+  module _ (e : Entry) (found : find p es ≡ Some e) where
+    abbrev before : List Entry
+    before = (find_split p es e found).0
+
+    abbrev after : List Entry
+    after = (find_split p es e found).1
+
+    whole : es ≡ before ++ e ∷ after
+    whole = (find_split p es e found).2
+
+    gone : without_first p es ≡ before ++ after
+    gone = ap (without_first p) whole
+        ∙ (first_after p before e after (find_split p es e found).3 (found_passes p es e found)).1
+
+    others : NonePasses (has_number e.number) before
+    others = each_map (λ (x : Entry). is_after x.number e.number ≡ true) (λ x. has_number e.number x ≡ false)
+        (λ x t. other_test x.number e.number (λ same. let q = is_after_parts x.number e.number t in
+        let small = small_it e before after (subst (λ xs. Below (2 ^ 32) (map number xs)) whole k.small) in
+        omega (arith, q.0, same, small)))
+        before (all_before_it e before after (subst (λ xs. InSerial (map number xs)) whole k.serial))
+
+    -- the numbers of its link are those before it, its own, and those after it
+    own_whole : numbers_of lists e.link ≡ numbers_in e.link before ++ e.number ∷ numbers_in e.link after
+    own_whole = k.same e.link ∙ ap (numbers_in e.link) whole
+        ∙ numbers_append e.link before (e ∷ after)
+        ∙ ap (λ ns. numbers_in e.link before ++ ns) (numbers_own e.link e after (equal_test e.link e.link refl))
+
+    pub own_some : 0 < length (numbers_of lists e.link)
+    own_some = let a = ap length own_whole in
+        let b = length-append (numbers_in e.link before) (e.number ∷ numbers_in e.link after) in omega (arith, a, b)
+
+    own_left : without_first (is_number e.number) (numbers_of lists e.link) ≡ numbers_in e.link (before ++ after)
+    own_left = ap (without_first (is_number e.number)) own_whole
+        ∙ (first_after (is_number e.number) (numbers_in e.link before) e.number (numbers_in e.link after)
+        (numbers_none e.link e.number before others) (equal_test e.number e.number refl)).1
+        ∙ sym (numbers_append e.link before after)
+
+    other_left : (link : ℕ) → is_of link e ≡ false → numbers_of lists link ≡ numbers_in link (before ++ after)
+    other_left link t = k.same link ∙ ap (numbers_in link) whole
+        ∙ numbers_append link before (e ∷ after)
+        ∙ ap (λ ns. numbers_in link before ++ ns) (numbers_other link e after t)
+        ∙ sym (numbers_append link before after)
+
+    pub kept_without : (new : List (Row ℕ)) → Loses e.number e.link lists new → IsKept (without_first p es) new
+    kept_without new loses = subst (λ xs. IsKept xs new) (sym gone) (record {
+      small = small_but e before after (subst (λ xs. Below (2 ^ 32) (map number xs)) whole k.small);
+      serial = serial_but e before after (subst (λ xs. InSerial (map number xs)) whole k.serial);
+      same = same_left;
+    })
+      where
+        same_left : (link : ℕ) → numbers_of new link ≡ numbers_in link (before ++ after)
+        same_left link = by (is_of link e) refl
+          where
+            by : (b : Bool) → is_of link e ≡ b → numbers_of new link ≡ numbers_in link (before ++ after)
+            by true t = subst (λ l. numbers_of new l ≡ numbers_in l (before ++ after)) (test_equal e.link link t)
+                (loses.own ∙ own_left)
+            by false t = loses.others link (λ is. true≢false (sym (equal_test e.link link (sym is)) ∙ t)) ∙ other_left
+                link t
+
+    -- its number finds it
+    pub number_finds : (find (has_number e.number) es ≡ Some e) × (without_first (has_number e.number) es ≡
+        without_first p es)
+    number_finds =
+        let r = first_after (has_number e.number) before e after others (equal_test e.number e.number refl) in (
+          ap (find (has_number e.number)) whole ∙ r.0,
+          ap (without_first (has_number e.number)) whole ∙ r.1 ∙ sym gone,
+        )
+
+-- ---- the first one goes
+
+pub first_found : (p : Entry → Bool) (es : List Entry) (e : Entry) → slice_get es 0 ≡ Some e → p e ≡ true →
+    (find p es ≡ Some e) × (without_first p es ≡ drop 1 es)
+first_found p [] e at t = absurd (let n : (let n : Option Entry = None in n) ≡ Some e = at in grind (arith, n))
+first_found p (x ∷ xs) e at t =
+    let is : x ≡ e = grind (arith, at) in
+    let u : p x ≡ true = ap p is ∙ t in
+    (rw u (ap Some is), rw u refl)
+
+pub none_first : (p : Entry → Bool) (es : List Entry) → slice_get es 0 ≡ None → (find p es ≡ None) × (without_first p es
+    ≡ es)
+none_first p [] e = (refl, refl)
+none_first p (x ∷ xs) e = absurd (let is : Some x ≡ None = e in grind (arith, is))
+
+-- ---- the oldest of a link
+
+module _ (es : List Entry) (lists : List (Row ℕ)) (k : IsKept es lists) (link : ℕ) where
+  link_first : slice_get (numbers_of lists link) 0 ≡ option_map number (find (is_of link) es)
+  link_first = ap (λ ns. slice_get ns 0) (k.same link) ∙ numbers_first link es
+
+  pub link_none : slice_get (numbers_of lists link) 0 ≡ None →
       (find (is_of link) es ≡ None) × (without_first (is_of link) es ≡ es)
-  link_none link h = let none = by (find (is_of link) es) (sym (link_first link) ∙ h) in
-      (none, not_found (is_of link) es none)
+  link_none h = let none = by (find (is_of link) es) (sym link_first ∙ h) in (none, not_found (is_of link) es none)
     where
-      by : (o : Option Entry) → option_map (λ (e : Entry). e.number) o ≡ None → o ≡ None
+      by : (o : Option Entry) → option_map number o ≡ None → o ≡ None
       by None e = refl
       by (Some x) e = absurd (let is : Some x.number ≡ None = e in grind (arith, is))
 
-  pub link_some : (link n : ℕ) → slice_get (numbers_of lists link) 0 ≡ Some n →
+  pub link_some : (n : ℕ) → slice_get (numbers_of lists link) 0 ≡ Some n →
       (find (has_number n) es ≡ find (is_of link) es)
       × (without_first (has_number n) es ≡ without_first (is_of link) es)
-  link_some link n h = by (find (is_of link) es) refl (sym (link_first link) ∙ h)
+  link_some n h = by (find (is_of link) es) refl (sym link_first ∙ h)
     where
-      by : (o : Option Entry) → find (is_of link) es ≡ o → option_map (λ (e : Entry). e.number) o ≡ Some n →
+      by : (o : Option Entry) → find (is_of link) es ≡ o → option_map number o ≡ Some n →
           (find (has_number n) es ≡ find (is_of link) es)
           × (without_first (has_number n) es ≡ without_first (is_of link) es)
       by None t e = absurd (let i : (let i : Option ℕ = None in i) ≡ Some n = e in grind (arith, i))
       by (Some y) t e =
           let is : Some y.number ≡ Some n = e in
-          let number : y.number ≡ n = grind (arith, is) in
-          let found = number_finds base (is_of link) es y k.rising t in (
-            subst (λ m. find (has_number m) es ≡ find (is_of link) es) number (found.0 ∙ sym t),
-            subst (λ m. without_first (has_number m) es ≡ without_first (is_of link) es) number found.1,
+          let same : y.number ≡ n = grind (arith, is) in
+          let found = number_finds es lists k (is_of link) y t in (
+            subst (λ m. find (has_number m) es ≡ find (is_of link) es) same (found.0 ∙ sym t),
+            subst (λ m. without_first (has_number m) es ≡ without_first (is_of link) es) same found.1,
           )
-
-  -- ---- an entry goes
-
-  module _ (rank : ℕ) (e : Entry) (at : slice_get es rank ≡ Some e) where
-    abbrev left : List Entry
-    left = take rank es ++ drop (suc rank) es
-
-    whole : es ≡ take rank es ++ e ∷ drop (suc rank) es
-    whole = sym (take-append-drop rank es) ∙ ap (λ xs. take rank es ++ xs) (from_item rank es e at)
-
-    before : NonePasses (has_number e.number) (take rank es)
-    before = each_map (λ x. entry_far base x < entry_far base e) (λ x. has_number e.number x ≡ false)
-        (λ x far. other_test x.number e.number
-        (λ is. let same : entry_far base x ≡ entry_far base e = ap (distance base) is in omega (arith, far, same)))
-        (take rank es)
-        (each_before_item (entry_far base) rank es e k.rising at)
-
-    gone : without_first (has_number e.number) es ≡ left
-    gone = (found_at (has_number e.number) rank es e before at (equal_test e.number e.number refl)).1
-
-    -- the numbers of its link are those before it, its own, and those after it
-    own_whole : numbers_of lists e.link
-        ≡ numbers_in e.link (take rank es) ++ e.number ∷ numbers_in e.link (drop (suc rank) es)
-    own_whole = k.same e.link ∙ ap (numbers_in e.link) whole
-        ∙ numbers_append e.link (take rank es) (e ∷ drop (suc rank) es)
-        ∙ ap (λ ns. numbers_in e.link (take rank es) ++ ns)
-        (numbers_own e.link e (drop (suc rank) es) (equal_test e.link e.link refl))
-
-    own_first : (find (is_number e.number) (numbers_of lists e.link) ≡ Some e.number)
-        × (without_first (is_number e.number) (numbers_of lists e.link) ≡ numbers_in e.link left)
-    own_first =
-        let r = first_after (is_number e.number) (numbers_in e.link (take rank es)) e.number
-        (numbers_in e.link (drop (suc rank) es)) (numbers_none e.link e.number (take rank es) before)
-        (equal_test e.number e.number refl) in (
-          ap (find (is_number e.number)) own_whole ∙ r.0,
-          ap (without_first (is_number e.number)) own_whole ∙ r.1
-              ∙ sym (numbers_append e.link (take rank es) (drop (suc rank) es)),
-        )
-
-    -- its number is there
-    pub number_found : IsSome (find (is_number e.number) (numbers_of lists e.link))
-    number_found = ap is_some own_first.0
-
-    other_whole : (link : ℕ) → is_of link e ≡ false → numbers_of lists link ≡ numbers_in link left
-    other_whole link t = k.same link ∙ ap (numbers_in link) whole
-        ∙ numbers_append link (take rank es) (e ∷ drop (suc rank) es)
-        ∙ ap (λ ns. numbers_in link (take rank es) ++ ns) (numbers_other link e (drop (suc rank) es) t)
-        ∙ sym (numbers_append link (take rank es) (drop (suc rank) es))
-
-    module _ (new : List (Sequence ℕ)) (loses : Loses e.number e.link lists new) where
-      same_left : (link : ℕ) → numbers_of new link ≡ numbers_in link left
-      same_left link = by (is_of link e) refl
-        where
-          by : (b : Bool) → is_of link e ≡ b → numbers_of new link ≡ numbers_in link left
-          by true t = subst (λ l. numbers_of new l ≡ numbers_in l left) (test_equal e.link link t)
-              (loses.own ∙ own_first.1)
-          by false t = loses.others link (λ is. true≢false (sym (equal_test e.link link (sym is)) ∙ t))
-              ∙ other_whole link t
-
-      pub kept_without : IsKept base left new
-      kept_without =
-          let p = has_number e.number in
-          record {
-            small = subst (λ xs. Below (2 ^ 32) (map (λ (x : Entry). x.number) xs)) gone
-                (each_below (λ (x : Entry). x.number) (2 ^ 32) (without_first p es)
-                (each_without (λ x. x.number < 2 ^ 32) p es
-                (below_each (λ (x : Entry). x.number) (2 ^ 32) es k.small)));
-            rising = subst (λ xs. IsRising (map (entry_far base) xs)) gone
-                (rising_without (entry_far base) p es k.rising);
-            half = subst (λ xs. Below (2 ^ 31) (map (entry_far base) xs)) gone
-                (each_below (entry_far base) (2 ^ 31) (without_first p es)
-                (each_without (λ x. entry_far base x < 2 ^ 31) p es (below_each (entry_far base) (2 ^ 31) es k.half)));
-            same = same_left;
-          }

@@ -2,11 +2,14 @@ pub mod ListLemmas
 pub mod OrderLemmas
 pub mod PlaceLemmas
 pub mod NumberLemmas
-pub mod RankLemmas
 pub mod NextLemmas
+pub mod CellLemmas
+pub mod SpotLemmas
+pub mod RowLemmas
+pub mod MarkLemmas
+pub mod TakeLemmas
 pub mod LinkLemmas
 pub mod KeptLemmas
-pub mod InsertLemmas
 pub mod ChainLemmas
 pub mod TableLemmas
 pub mod HistoryLemmas

@@ -4,15 +4,7 @@ use Rattle.std.proofs.Common.{ap, sym, subst, ◌∙◌, refl, cond, Bool, true,
 use Rattle.std.specs.Prelude.{slice_get}
 use Rattle.std.specs.List.{filter, find}
 use Rattle.amqp_unsettled.specs.Table.{without_first}
-
--- this holds of each item
-abbrev pub Each : {X : Type 0} → (X → Type 0) → List X → Type 0
-Each P [] = Unit {0}
-Each P (x ∷ xs) = P x × Each P xs
-
--- no item passes
-abbrev pub NonePasses : {X : Type 0} → (X → Bool) → List X → Type 0
-NonePasses p xs = Each (λ x. p x ≡ false) xs
+use Rattle.amqp_unsettled.specs.Inner.Order.{Each, NonePasses}
 
 module _ {X : Type 0} where
   pub each_map : (P Q : X → Type 0) → ((x : X) → P x → Q x) → (xs : List X) → Each P xs → Each Q xs
@@ -64,23 +56,6 @@ module _ {X : Type 0} where
       by true t on = absurd (let is : Some x ≡ None = sym (ap (λ b. cond b (Some x) (find p xs)) t) ∙ e in
           grind (arith, is))
       by false t on = rw t (ap (λ ys. x ∷ ys) (on (sym (ap (λ b. cond b (Some x) (find p xs)) t) ∙ e)))
-
-  pub found_at : (p : X → Bool) (c : ℕ) (xs : List X) (x : X) → NonePasses p (take c xs) → slice_get xs c ≡ Some x →
-      p x ≡ true → (find p xs ≡ Some x) × (without_first p xs ≡ take c xs ++ drop (suc c) xs)
-  found_at p c [] x h at passes = absurd (none_some at)
-    where
-      none_some : (let n : Option X = None in n) ≡ Some x → ⊥
-      none_some e = grind (arith, e)
-  found_at p zero (y ∷ ys) x h at passes = by (subst (λ o. o ≡ Some x) refl at)
-    where
-      by : Some y ≡ Some x → (cond (p y) (Some y) (find p ys) ≡ Some x) × (cond (p y) ys (y ∷ without_first p ys) ≡ ys)
-      by e =
-          let same : y ≡ x = grind (arith, e) in
-          let t : p y ≡ true = ap p same ∙ passes in
-          (rw t e, rw t refl)
-  found_at p (suc c) (y ∷ ys) x h at passes =
-      let r = found_at p c ys x h.1 at passes in
-      (rw h.0 r.0, rw h.0 (ap (λ zs. y ∷ zs) r.1))
 
   pub found_each : (P : X → Type 0) (p : X → Bool) (xs : List X) (x : X) → Each P xs → find p xs ≡ Some x → P x
   found_each P p [] x h e = absurd (let n : (let n : Option X = None in n) ≡ Some x = e in grind (arith, n))

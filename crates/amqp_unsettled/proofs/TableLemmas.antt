@@ -2,11 +2,12 @@
 use Rattle.std.proofs.Common.{◌≡◌, ℕ, ◌+◌, ◌^◌, ◌<◌, arith, List, [], ◌∷◌, ◌++◌, length}
 use Rattle.std.proofs.Common.{ap, sym, subst, ◌∙◌, refl, cond, not, ◌||◌, Bool, true, false, Option, Some, None}
 use Rattle.std.specs.List.{filter, find, list_all, list_any}
+use Rattle.amqp_unsettled.specs.Inner.Order.{Each}
 use Rattle.amqp_unsettled.specs.declared.entry.Entry.{Entry}
 use Rattle.amqp_unsettled.specs.Serial.{distance, is_after}
 use Rattle.amqp_unsettled.specs.Table.{has_number, without_first}
 use Rattle.amqp_unsettled.specs.Laws.{InOrder}
-use Rattle.amqp_unsettled.proofs.ListLemmas.{Each, each_map, each_without, found_each}
+use Rattle.amqp_unsettled.proofs.ListLemmas.{each_map, each_without, found_each}
 use Rattle.amqp_unsettled.proofs.NumberLemmas.{equal_test, other_test}
 use Rattle.amqp_unsettled.proofs.NextLemmas.{all_pass, each_passes, is_after_parts}
 

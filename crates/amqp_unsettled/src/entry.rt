@@ -1,10 +1,8 @@
 //! What is known of an unsettled delivery, and why one is not taken.
 
 ghost use Rattle.std.specs.Prelude.{◌≡◌};
-ghost use Rattle.amqp_unsettled.specs.Inner.Order.{entry_far};
 
-use crate::order::Ordered;
-use crate::serial::distance;
+use crate::numbered::Numbered;
 
 /// An unsettled delivery.
 #[derive(Clone, Copy, Debug, PartialEq, Eq)]
@@ -18,12 +16,12 @@ pub struct Entry {
     pub given: u64,
 }
 
-impl Ordered for Entry {
-    ghost far_of = { entry_far };
+impl Numbered for Entry {
+    ghost number_of = { λ e. e.number };
 
     #[inline(always)]
-    fn far(&self, base: u32) -> u64 {
-        u64::from(distance(base, self.number))
+    fn number(&self) -> u32 {
+        self.number
     }
 }
 

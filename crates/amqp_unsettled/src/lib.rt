@@ -21,28 +21,31 @@
 //! | `len`, `is_empty`, `count_of`, `forget_link` | constant |
 //! | `get`, `find_next`, `next_of` | a search of the numbers |
 //! | `insert` | constant; with the highest link until then, a step for each link between it and the highest before |
-//! | `remove_oldest` | constant: it is the oldest of its link too |
-//! | `remove`, `settle_next` | a search of the numbers; where one goes, one of its link's, and it is taken out of both |
-//! | `remove_next_of` | a search of the numbers, and one taken out |
+//! | `settle_next` of the oldest, `remove_oldest` | constant |
+//! | `remove`, `settle_next`, `remove_next_of` | a search of the numbers, and one of those of its link |
 //!
 //! A search is constant where it ends at the oldest or the newest, or where none is missing between them, or all that
-//! are stand in one stretch; and else logarithmic in how many are missing, and in n. To take one out from among others
-//! moves a block of 256 at most, and takes a step for each block between it and that of the change before, as
-//! `amqp_blocks` does it. No cost grows with how many numbers a range has, nor with how many links there are.
+//! are stand in one stretch; and else logarithmic in how many are missing, and in n. A delivery that goes from among
+//! others leaves its cell, so that none has to move, and its number is not missing. Cells that are left are cleared
+//! away
+//! once they are most, in a step for each: so a delivery pays for a few cells, in whatever order they go. Where many of
+//! a range have gone in a stretch `settle_next` notes it, and passes over it at once; `find_next`, which notes nothing,
+//! takes a step for each that went by itself. No cost grows with how many numbers a range has, nor with links.
 //!
-//! The memory is that of what is unsettled, and of a list for each link up to the highest: so links are to have low
-//! numbers, as the handles of a session are. Where many deliveries were, the lists of their blocks stay until nothing
-//! is unsettled. With the last delivery then all memory goes, in a step for each link. `forget_link` lets that of a
-//! link's list go, but for its place.
+//! A delivery takes a cell of 24 bytes, and one of 8 among those of its link; a link 40 bytes, up to the highest: so
+//! links are to have low numbers, as the handles of a session are. Where less than one cell of 16 is in use the next
+//! delivery that goes lets the others go, but for 64. `forget_link` lets go what a link has, but for its place.
 #![tactic(auto)]
 
+mod cells;
 mod entry;
 pub mod laws;
 mod lists;
-mod order;
-mod rank;
+mod numbered;
+mod row;
 mod search;
 mod serial;
+mod spots;
 mod table;
 mod taking;
 

@@ -19,8 +19,8 @@ pub(crate) fn distance(from: u32, number: u32) -> u32
 pub(crate) fn is_after(from: u32, number: u32) -> bool
     ensures { result ≡ is_after from number }
 {
-    let far = distance(from, number);
-    0 < far && far < HALF
+    // One test in place of two: 0 wraps.
+    distance(from, number).wrapping_sub(1) < HALF - 1
 }
 
 /// Whether a range goes forward.

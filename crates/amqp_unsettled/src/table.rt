@@ -1,19 +1,16 @@
 //! The table of what is unsettled.
 
-ghost use Rattle.std.specs.Prelude.{◌≡◌, ◌==◌, ◌+◌, ◌<◌, [], ◌++◌, Some, length, take, drop, slice_get};
+ghost use Rattle.std.specs.Prelude.{◌≡◌, ◌==◌, [], ◌∷◌, ◌++◌, true, Some, IfErr, IfOk, drop, length, slice_get};
 ghost use Rattle.std.specs.List.{find};
-ghost use Rattle.amqp_unsettled.specs.Table.{InsertStep, TakeStep, has_number, is_any, is_in, is_of, count_of};
+ghost use Rattle.amqp_memory.specs.Refusal.{SomeRefused};
+ghost use Rattle.amqp_unsettled.specs.Table.{InsertStep, TakeStep, has_number, is_any, is_in, is_next, is_of, count_of};
 
 use crate::entry::{Entry, InsertError};
 use crate::lists;
-use crate::rank::{base_for, rank_of, rank_within};
-use crate::taking::take_out;
-use amqp_blocks::Blocks;
+use crate::row::Row;
+use crate::serial::is_within;
 use std::alloc::Global;
 use std::marker::Model;
-
-/// Where as many deliveries were in a table at once, its memory is let go as the last one goes.
-const MANY: usize = 1024;
 
 /// What is unsettled in one direction of one session (AMQP 1.0 part 2, section 2.6.12): the deliveries that this side
 /// has sent, or those that it has received, from the oldest to the newest.
@@ -21,30 +18,26 @@ const MANY: usize = 1024;
 /// Delivery numbers are serial numbers, which wrap at 2^32. All that are in a table at once lie within half of that
 /// circle, so that each two of them have an order.
 ///
-/// It keeps a list for each link up to the highest number of one that had a delivery: 112 bytes each, on machines with
-/// addresses of 8 bytes, and 4 for each delivery.
+/// It keeps a row for each link up to the highest number of one that had a delivery: 40 bytes each, on machines with
+/// addresses of 8 bytes, and 8 for each delivery.
 #[derive(Drop)]
 pub struct Unsettled {
     alloc: Global,
-    // No number lies before it, and each by less than half of the circle after it.
-    base: u32,
-    entries: Blocks<Entry>,
+    entries: Row<Entry>,
     // Of each link the numbers of its deliveries, at the place that the link's number is.
-    lists: Vec<Blocks<u32>>,
-    // The most there were since the memory was let go.
-    most: usize,
+    lists: Vec<Row<u32>>,
 }
 
 impl Model for Unsettled {
     ghost use Rattle.std.specs.Prelude.{List};
     ghost use Rattle.amqp_unsettled.specs.declared.entry.Entry.{Entry};
-    ghost use Rattle.amqp_unsettled.specs.Inner.Order.{IsKept};
+    ghost use Rattle.amqp_unsettled.specs.Inner.Lists.{IsKept};
 
     ghost Value = { List Entry };
 
     ghost view = { λ s. s.entries.items };
 
-    ghost invariant = { λ s. IsKept s.base s.entries.items s.lists.items };
+    ghost invariant = { λ s. IsKept s.entries.items s.lists.items };
 }
 
 impl Unsettled {
@@ -54,10 +47,8 @@ impl Unsettled {
     {
         Unsettled {
             alloc,
-            base: 0,
-            entries: Blocks::new(alloc),
+            entries: Row::new(alloc),
             lists: Vec::new(alloc),
-            most: 0,
         }
     }
 
@@ -87,19 +78,31 @@ impl Unsettled {
     pub fn insert(&mut self, entry: Entry) -> Result<(), InsertError>
         ensures { InsertStep self.old entry result self.new }
     {
-        let Some(base) = base_for(&self.entries, self.base, entry.number) else {
+        if !self.entries.is_next(entry.number) {
             return Err(InsertError::NotNext);
-        };
-        let Ok(()) = self.entries.reserve(1) else {
+        }
+        if self.entries.has_room() && lists::has_room(&self.lists, entry.link) {
+            lists::put(&mut self.lists, entry.link, entry.number);
+            self.entries.push(entry);
+            return Ok(());
+        }
+        self.insert_later(entry)
+    }
+
+    /// The same of one that may come next, once there is room.
+    #[inline(never)]
+    fn insert_later(&mut self, entry: Entry) -> Result<(), InsertError>
+        requires next { is_next entry.number self.old ≡ true }
+        ensures { InsertStep self.old entry result self.new }
+    {
+        let Ok(()) = self.entries.reserve() else {
             return Err(InsertError::OutOfMemory);
         };
         let Ok(()) = lists::make_room(&mut self.lists, self.alloc, entry.link) else {
             return Err(InsertError::OutOfMemory);
         };
         lists::put(&mut self.lists, entry.link, entry.number);
-        self.entries.push_back(entry);
-        self.base = base;
-        self.most = self.most.max(self.entries.len());
+        self.entries.push(entry);
         Ok(())
     }
 
@@ -107,8 +110,7 @@ impl Unsettled {
     pub fn get(&self, number: u32) -> Option<Entry>
         ensures { result ≡ find (has_number number) self.now }
     {
-        let rank = rank_of(&self.entries, self.base, number)?;
-        Some(*self.entries.get(rank))
+        self.entries.get(number)
     }
 
     /// The oldest unsettled delivery of the range from `first` to `last`, which stays. A range is as for
@@ -116,8 +118,7 @@ impl Unsettled {
     pub fn find_next(&self, first: u32, last: u32) -> Option<Entry>
         ensures { result ≡ find (is_in first last) self.now }
     {
-        let rank = rank_within(&self.entries, self.base, first, last)?;
-        Some(*self.entries.get(rank))
+        self.entries.find_within(first, last)
     }
 
     /// How many deliveries of a link are unsettled.
@@ -132,8 +133,9 @@ impl Unsettled {
     pub fn remove(&mut self, number: u32) -> Option<Entry>
         ensures { TakeStep (has_number number) self.old result self.new }
     {
-        let rank = rank_of(&self.entries, self.base, number)?;
-        Some(self.take_at(rank))
+        let entry = self.entries.take(number)?;
+        lists::forget(&mut self.lists, entry.link, entry.number);
+        Some(entry)
     }
 
     /// Takes out the oldest unsettled delivery of the range from `first` to `last`, both of them in it, as a
@@ -144,8 +146,27 @@ impl Unsettled {
     pub fn settle_next(&mut self, first: u32, last: u32) -> Option<Entry>
         ensures { TakeStep (is_in first last) self.old result self.new }
     {
-        let rank = rank_within(&self.entries, self.base, first, last)?;
-        Some(self.take_at(rank))
+        let oldest = self.entries.first()?;
+        // Most often it is meant.
+        if is_within(first, last, oldest.number)
+            && self.entries.is_plain()
+            && lists::is_plain(&self.lists, oldest.link)
+        {
+            self.entries.drop_first();
+            lists::drop_first(&mut self.lists, oldest.link);
+            return Some(oldest);
+        }
+        self.settle_later(first, last)
+    }
+
+    /// The same of any delivery.
+    #[inline(never)]
+    fn settle_later(&mut self, first: u32, last: u32) -> Option<Entry>
+        ensures { TakeStep (is_in first last) self.old result self.new }
+    {
+        let entry = self.entries.take_within(first, last)?;
+        lists::forget(&mut self.lists, entry.link, entry.number);
+        Some(entry)
     }
 
     /// The oldest unsettled delivery of a link, which [`Unsettled::remove_next_of`] takes out.
@@ -177,32 +198,7 @@ impl Unsettled {
     pub fn remove_oldest(&mut self) -> Option<Entry>
         ensures { TakeStep is_any self.old result self.new }
     {
-        if self.is_empty() {
-            return None;
-        }
-        Some(self.take_at(0))
-    }
-
-    /// Takes out the delivery of a rank.
-    fn take_at(&mut self, rank: usize) -> Entry
-        requires within { rank < length self.old }
-        ensures value { slice_get self.old rank ≡ Some result }
-        ensures left { self.new ≡ take rank self.old ++ drop (rank + 1) self.old }
-    {
-        let entry = take_out(&mut self.entries, rank);
-        lists::forget(&mut self.lists, self.base, entry.link, entry.number);
-        self.let_go();
-        entry
-    }
-
-    /// Lets the memory of many deliveries go where none is left.
-    fn let_go(&mut self)
-        ensures { self.new ≡ self.old }
-    {
-        if self.most >= MANY && self.entries.is_empty() {
-            self.entries = Blocks::new(self.alloc);
-            self.lists = Vec::new(self.alloc);
-            self.most = 0;
-        }
+        let oldest = self.entries.first()?;
+        self.remove(oldest.number)
     }
 }

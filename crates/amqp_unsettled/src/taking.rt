@@ -1,21 +1,72 @@
-//! One item leaves.
+//! Items of cells are found, and taken out.
 
-ghost use Rattle.std.specs.Prelude.{◌≡◌, ◌+◌, ◌<◌, ◌^◌, ◌++◌, Some, length, take, drop, slice_get};
+ghost use Rattle.std.specs.Prelude.{◌≡◌, ◌+◌, ◌<◌, ◌≤◌, drop, length};
+ghost use Rattle.std.specs.List.{find};
+ghost use Rattle.amqp_unsettled.specs.Inner.Rows.{IsRow, Takes, items_in, numbered, ranged, used};
 
-use amqp_blocks::Blocks;
+use crate::cells::{Cell, Cells};
+use crate::numbered::Numbered;
+use crate::spots::{span, spot};
 
-/// Takes the item of a rank out. The first one costs least.
-#[inline(always)]
-pub(crate) fn take_out<T: Copy>(items: &mut Blocks<T>, rank: usize) -> T
-    requires within { rank < length items.old.items }
-    requires few { length items.old.items < 2 ^ 33 }
-    ensures value { slice_get items.old.items rank ≡ Some result }
-    ensures left { items.new.items ≡ take rank items.old.items ++ drop (rank + 1) items.old.items }
-{
-    if rank == 0 {
-        return items.pop_front().unwrap();
+impl<T: Numbered> Cells<T> {
+    /// The cells in use.
+    #[inline(always)]
+    fn in_use(&self) -> &[Cell<T>]
+        requires within { self.now.head ≤ length self.now.cells.items }
+        ensures { result.now ≡ used self.now }
+    {
+        &self.cells[self.head..]
     }
-    let item = *items.get(rank);
-    items.remove_range(rank, rank + 1);
-    item
+
+    /// The item of a number.
+    pub(crate) fn get(&self, number: u32) -> Option<T>
+        requires row { IsRow T.number_of self.now }
+        ensures { result ≡ find (numbered T.number_of number) (items_in self.now) }
+    {
+        let cells = self.in_use();
+        let at = spot(cells, number)?;
+        Some(cells[at].item)
+    }
+
+    /// The first item that a range means.
+    pub(crate) fn find_within(&self, first: u32, last: u32) -> Option<T>
+        requires row { IsRow T.number_of self.now }
+        ensures { result ≡ find (ranged T.number_of first last) (items_in self.now) }
+    {
+        let cells = self.in_use();
+        let at = span(cells, first, last)?.at;
+        Some(cells[at].item)
+    }
+
+    /// Takes the item of a number out.
+    pub(crate) fn take(&mut self, number: u32) -> Option<T>
+        requires row { IsRow T.number_of self.old }
+        ensures row { IsRow T.number_of self.new }
+        ensures takes { Takes (numbered T.number_of number) (items_in self.old) result (items_in self.new) }
+    {
+        let at = spot(self.in_use(), number)?;
+        Some(self.cut(at, at))
+    }
+
+    /// Takes the first item out that a range means.
+    pub(crate) fn take_within(&mut self, first: u32, last: u32) -> Option<T>
+        requires row { IsRow T.number_of self.old }
+        ensures row { IsRow T.number_of self.new }
+        ensures takes { Takes (ranged T.number_of first last) (items_in self.old) result (items_in self.new) }
+    {
+        let found = span(self.in_use(), first, last)?;
+        Some(self.cut(found.from, found.at))
+    }
+
+    /// The first item goes, where no other has gone that keeps its cell.
+    #[inline(always)]
+    pub(crate) fn skip_first(&mut self)
+        requires row { IsRow T.number_of self.old }
+        requires plain { self.old.gone ≡ 0 }
+        requires some { 0 < length (items_in self.old) }
+        ensures row { IsRow T.number_of self.new }
+        ensures items { items_in self.new ≡ drop 1 (items_in self.old) }
+    {
+        self.head += 1;
+    }
 }

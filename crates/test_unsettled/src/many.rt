@@ -56,7 +56,7 @@ fn all_at_once(rt: HostRuntime) -> Result<(), Fail> {
     Ok(())
 }
 
-/// All goes with the last one where many were, also what was kept for links.
+/// With the last ones the memory of many goes, of all and of each link. They come again.
 #[test]
 fn links_come_again_where_the_memory_was_let_go(rt: HostRuntime) -> Result<(), Fail> {
     let mut table = Unsettled::new(rt.alloc());

@@ -1,8 +1,8 @@
-//! Ranges: past the wrap, as wide as half of the circle, backward, and beside what is there.
+//! Ranges: past the wrap, as wide as half of the circle, backward, beside what is there, and among what has gone.
 
 use crate::calls::entry;
 use crate::same::same;
-use amqp_unsettled::Unsettled;
+use amqp_unsettled::{InsertError, Unsettled};
 use std::alloc::Global;
 use std::process::Abort;
 use std::test::Fail;
@@ -121,5 +121,44 @@ fn a_table_as_wide_as_half_of_the_circle(rt: HostRuntime) -> Result<(), Fail> {
         3_000_000_000,
         1,
     );
+    Ok(())
+}
+
+/// Deliveries from the middle on go first, and the cells that they had stay: a range that begins among these gives what
+/// comes after them, whichever it is.
+#[test]
+fn a_range_that_begins_among_those_that_have_gone(rt: HostRuntime) -> Result<(), Fail> {
+    let mut table = filled(&rt, rt.alloc(), 0, 60);
+    settles(&rt, &mut table, (20, 39), 20, 20);
+    for first in 20..40u32 {
+        same(&rt, table.find_next(first, 39), None);
+        same(&rt, table.find_next(first, 59), Some(entry(40, 0)));
+    }
+    same(&rt, table.settle_next(25, 39), None);
+    same(&rt, table.settle_next(25, 40), Some(entry(40, 0)));
+    same(&rt, table.settle_next(30, 59), Some(entry(41, 0)));
+    same(&rt, table.settle_next(10, 59), Some(entry(10, 0)));
+    settles(&rt, &mut table, (0, 9), 0, 10);
+    settles(&rt, &mut table, (0, 19), 11, 9);
+    settles(&rt, &mut table, (0, 59), 42, 18);
+    same(&rt, table.len(), 0);
+    Ok(())
+}
+
+/// The newest one comes and goes again and again, as where its transfer is refused, each time on another link.
+#[test]
+fn the_newest_comes_and_goes(rt: HostRuntime) -> Result<(), Fail> {
+    let mut table = filled(&rt, rt.alloc(), 0, 100);
+    settles(&rt, &mut table, (50, 99), 50, 50);
+    for link in 0..40u32 {
+        let newest = entry(50, link);
+        let before = table.count_of(link);
+        same(&rt, table.insert(newest), Ok(()));
+        same(&rt, table.insert(newest), Err(InsertError::NotNext));
+        same(&rt, table.count_of(link), before.wrapping_add(1));
+        same(&rt, table.remove(50), Some(newest));
+        same(&rt, table.count_of(link), before);
+    }
+    settles(&rt, &mut table, (0, 60), 0, 50);
     Ok(())
 }

@@ -1,5 +1,5 @@
 use Rattle.std.proofs.Common.{◌≡◌, ◌-◌, ◌≤◌, max, vec_capacity, vec_len}
-use Rattle.amqp_unsettled.specs.Inner.Order.{AsBefore}
+use Rattle.amqp_unsettled.specs.Inner.Lists.{AsBefore}
 use Rattle.amqp_unsettled.proofs.lists.fill_up.Given as goal
 
 abbrev pub invariant-loop-alloc : goal.invariant-loop-alloc
