@@ -21,27 +21,35 @@ from bench.bench import run
 from shared.command import command
 
 ROOT = Path(__file__).resolve().parents[2]
-SOURCE = Path(__file__).with_suffix(".rt.txt")
-NAME, BELOW = "bench_links", ["amqp_memory", "amqp_credit", "amqp_unsettled", "amqp_links"]
+USED = "amqp_links anyhow"
 # Of deliveries that go on, and of those that were open and are settled
 ON, OF_OPEN = (1000, 2000), (100, 400)
 OPEN = 1000
 ORDERS = {"in order": "in-order", "from the middle on": "middle", "every second one": "second", "in reverse": "reverse", "scattered": "scattered"}
 
 
-def built(folder):
-    """The program, built in this folder, where it is a crate beside those below it."""
-    root = Path(folder)
-    for name in BELOW:
-        shutil.copytree(ROOT / "crates" / name, root / "crates" / name, ignore=shutil.ignore_patterns("out"))
-    source = root / "crates" / NAME / "src"
+def with_below(names):
+    """These crates and all that they stand on, by their lines in crates.txt."""
+    lines = [re.sub("#.*", "", line).split(":", 1) for line in (ROOT / "crates.txt").read_text().splitlines()]
+    known = {line[0].split()[0]: line[1].split() for line in lines if len(line) == 2}
+    found = [name for name in known if name in names]
+    more = {used for name in found for used in known[name]} & set(known) - set(found)
+    return with_below({*found, *more}) if more else {name: known[name] for name in found}
+
+
+def built(folder, name, used):
+    """The program of tools/bench/NAME.rt.txt, built in this folder without a proof, where it is a crate beside those that it stands on."""
+    root, below = Path(folder), with_below(set(used.split()))
+    for crate in below:
+        shutil.copytree(ROOT / "crates" / crate, root / "crates" / crate, ignore=shutil.ignore_patterns("out"))
+    source = root / "crates" / name / "src"
     source.mkdir(parents=True)
-    shutil.copyfile(SOURCE, source / "main.rt")
-    named = [line for line in (ROOT / "crates.txt").read_text().splitlines() if line.split(":")[0] in BELOW]
-    (root / "crates.txt").write_text("\n".join([*named, f"{NAME}: amqp_links anyhow"]) + "\n")
-    words = [sys.executable, ROOT / "tools" / "bench" / "unproved.py", source.parent, root / NAME]
+    shutil.copyfile(ROOT / "tools" / "bench" / f"{name}.rt.txt", source / "main.rt")
+    named = [f"{crate}: {' '.join(words)}" for crate, words in below.items()]
+    (root / "crates.txt").write_text("\n".join([*named, f"{name}: {used}"]) + "\n")
+    words = [sys.executable, ROOT / "tools" / "bench" / "unproved.py", source.parent, root / name]
     subprocess.run(words, stdin=subprocess.DEVNULL, stdout=subprocess.DEVNULL, check=True)
-    return str(root / NAME)
+    return str(root / name)
 
 
 def instructions(program, words):
@@ -73,7 +81,7 @@ def rows(programs):
 
 def main():
     with tempfile.TemporaryDirectory() as folder:
-        rows(sys.argv[1:] or [built(folder)])
+        rows(sys.argv[1:] or [built(folder, "bench_links", USED)])
 
 
 if __name__ == "__main__":
