@@ -77,6 +77,8 @@ def rows(programs):
     for links in (1, 100, 1000):
         for name, mode in ORDERS.items():
             row(programs, f"one of {OPEN} is settled, {name}, {links} links", mode, OF_OPEN, links, OPEN)
+    for opened in (OPEN, 100 * OPEN):
+        row(programs, f"a range of what has gone, of {opened}", "gone", OF_OPEN, 1, opened)
 
 
 def main():

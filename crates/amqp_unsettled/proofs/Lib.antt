@@ -5,6 +5,7 @@ pub mod NumberLemmas
 pub mod NextLemmas
 pub mod CellLemmas
 pub mod SpotLemmas
+pub mod AlikeLemmas
 pub mod RowLemmas
 pub mod MarkLemmas
 pub mod TakeLemmas

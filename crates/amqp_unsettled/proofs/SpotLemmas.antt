@@ -197,8 +197,8 @@ module _ {X : Type 0} (f : X → ℕ) (base first last : ℕ) (hb : base < 2 ^ 3
         (before (far f base) in_range (start_of base first) Half sooner later from cs
         (begins f base cs (start_of base first) from b))
 
-    before_at : NonePasses meant (there (take at cs))
-    before_at =
+    pub range_before : NonePasses meant (there (take at cs))
+    range_before =
         let parts = there_split from (take at cs) in
         let one = take-take from at cs order in
         let two : drop from (take at cs) ≡ take (at - from) (drop from cs) =
@@ -212,21 +212,9 @@ module _ {X : Type 0} (f : X → ℕ) (base first last : ℕ) (hb : base < 2 ^ 3
         subst (NonePasses meant) (sym all) before_from
 
     pub range_past : length cs ≤ at → NonePasses meant (there cs)
-    range_past h = subst (λ xs. NonePasses meant (there xs)) (take_all at cs h) before_at
+    range_past h = subst (λ xs. NonePasses meant (there xs)) (take_all at cs h) range_before
 
-    module _ (c : Cell X) (h : at < length cs) (e : c ≡ slice_index_or cs at c) (t : IsThereAt cs at) where
-      there_here : slice_get cs at ≡ Some c
-      there_here = got cs at c h e
-
-      pub range_here : is_within first last (f c.item) ≡ true → IsAt meant cs at
-      range_here w = record {
-        within = h;
-        is = t;
-        meant = λ d k. let s : Some c ≡ Some d = sym there_here ∙ k in let w' : c ≡ d = grind (arith, s) in
-            sym (ap in_range w') ∙ w;
-        before = before_at;
-      }
-
+    module _ (c : Cell X) (there_here : slice_get cs at ≡ Some c) (t : IsThereAt cs at) where
       pub range_other : IsRising (fars f base cs) → Below (2 ^ 31) (fars f base cs) →
           is_within first last (f c.item) ≡ false → NonePasses meant (there cs)
       range_other r half w =
@@ -242,7 +230,7 @@ module _ {X : Type 0} (f : X → ℕ) (base first last : ℕ) (hb : base < 2 ^ 3
           (each_both (λ d. far f base c < far f base d) Half (drop (suc at) cs)
           (each_after_item (far f base) at cs c rising there_here) (each_drop Half (suc at) cs half')) in
           subst (NonePasses meant) (sym (there_at cs at c there_here (t c there_here)))
-          (none_both meant (there (take at cs)) (c.item ∷ there (drop (suc at) cs)) before_at
+          (none_both meant (there (take at cs)) (c.item ∷ there (drop (suc at) cs)) range_before
           (w, there_none meant (drop (suc at) cs) after))
         where
           got_from : (from at : ℕ) → from ≤ at → (c : Cell X) → slice_get cs at ≡ Some c →

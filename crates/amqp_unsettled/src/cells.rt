@@ -4,7 +4,8 @@ ghost use Rattle.std.specs.Prelude.{◌≡◌, ℕ, ◌+◌, ◌-◌, ◌*◌, �
 ghost use Rattle.std.specs.Prelude.{length, min, take, drop, slice_get};
 ghost use Rattle.std.specs.Prelude.{slice_index, vec_len, vec_capacity};
 ghost use Rattle.amqp_memory.specs.Refusal.{SomeRefused};
-ghost use Rattle.amqp_unsettled.specs.Inner.Rows.{FirstGone, IsLoose, IsRow, IsRunSet, IsThereAt, comes_next, fars};
+ghost use Rattle.amqp_unsettled.specs.Inner.Rows.{Alike, FirstGone, IsLoose, IsRow, IsRunSet, IsThereAt, comes_next};
+ghost use Rattle.amqp_unsettled.specs.Inner.Rows.{fars};
 ghost use Rattle.amqp_unsettled.specs.Inner.Rows.{items_in, live, there, used};
 
 use crate::numbered::Numbered;
@@ -232,6 +233,25 @@ impl<T: Numbered> Cells<T> {
         set_run(&mut self.cells, self.head + at, 1);
         set_run(&mut self.cells, self.head + from, at - from + 1);
         self.gone += 1;
+    }
+
+    /// Has the cells that a walk from one to another passes say how far it is to that. All from the one on and before
+    /// the other have gone.
+    pub(crate) fn join(&mut self, from: usize, to: usize)
+        requires row { IsRow T.number_of self.old }
+        requires order { from ≤ to }
+        requires within { to < length (used self.old) }
+        requires gone { FirstGone (to - from) (drop from (used self.old)) }
+        ensures row { IsRow T.number_of self.new }
+        ensures alike { Alike (used self.old) (used self.new) }
+    {
+        let mut at = from;
+        while at < to {
+            let place = self.head + at;
+            let run = self.cells[place].run as usize;
+            set_run(&mut self.cells, place, to - at);
+            at += run;
+        }
     }
 
     /// Makes the row smaller, where few items are left of many.

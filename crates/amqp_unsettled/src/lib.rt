@@ -27,10 +27,10 @@
 //! A search is constant where it ends at the oldest or the newest, or where none is missing between them, or all that
 //! are stand in one stretch; and else logarithmic in how many are missing, and in n. A delivery that goes from among
 //! others leaves its cell, so that none has to move, and its number is not missing. Cells that are left are cleared
-//! away
-//! once they are most, in a step for each: so a delivery pays for a few cells, in whatever order they go. Where many of
-//! a range have gone in a stretch `settle_next` notes it, and passes over it at once; `find_next`, which notes nothing,
-//! takes a step for each that went by itself. No cost grows with how many numbers a range has, nor with links.
+//! away once they are most, in a step for each: so a delivery pays for a few cells, in whatever order they go. A
+//! stretch of cells that are left is passed over: `settle_next` notes in each that it comes to how far the stretch
+//! goes, so that a later walk skips it; `find_next`, which notes nothing, goes by what was noted. No cost grows with
+//! how many numbers a range has, nor with links.
 //!
 //! A delivery takes a cell of 24 bytes, and one of 8 among those of its link; a link 40 bytes, up to the highest: so
 //! links are to have low numbers, as the handles of a session are. Where less than one cell of 16 is in use the next

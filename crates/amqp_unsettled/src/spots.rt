@@ -2,7 +2,8 @@
 
 ghost use Rattle.std.specs.Prelude.{◌≡◌, ◌-◌, ◌^◌, ◌<◌, ◌≤◌, drop, length};
 ghost use Rattle.amqp_unsettled.specs.Inner.Order.{Below, start_of};
-ghost use Rattle.amqp_unsettled.specs.Inner.Rows.{FirstGone, InSerial, IsThereAt, RunsGone, IsSpot, SpansTo, numbered};
+ghost use Rattle.amqp_unsettled.specs.Inner.Rows.{FirstGone, InSerial, IsThereAt, RunsGone, IsSpot, ReachesTo};
+ghost use Rattle.amqp_unsettled.specs.Inner.Rows.{numbered};
 ghost use Rattle.amqp_unsettled.specs.Inner.Rows.{numbers, ranged};
 
 use crate::cells::Cell;
@@ -68,12 +69,12 @@ fn start_of(base: u32, first: u32) -> u32
     if far < HALF { far } else { 0 }
 }
 
-/// The cell of the first item that a range means.
-pub(crate) fn span<T: Numbered>(cells: &[Cell<T>], first: u32, last: u32) -> Option<Found>
+/// The first cell from the range's first number on whose item is there. `None` where there is none.
+pub(crate) fn reach<T: Numbered>(cells: &[Cell<T>], first: u32, _last: u32) -> Option<Found>
     requires small { Below (2 ^ 32) (numbers T.number_of cells.now) }
     requires serial { InSerial (numbers T.number_of cells.now) }
     requires runs { RunsGone cells.now }
-    ensures { SpansTo (ranged T.number_of first last) cells.now result }
+    ensures { ReachesTo (ranged T.number_of first _last) cells.now result }
 {
     if cells.len() == 0 {
         return None;
@@ -84,8 +85,19 @@ pub(crate) fn span<T: Numbered>(cells: &[Cell<T>], first: u32, last: u32) -> Opt
     if at >= cells.len() {
         return None;
     }
+    Some(Found { from, at })
+}
+
+/// The cell of the first item that a range means.
+pub(crate) fn span<T: Numbered>(cells: &[Cell<T>], first: u32, last: u32) -> Option<usize>
+    requires small { Below (2 ^ 32) (numbers T.number_of cells.now) }
+    requires serial { InSerial (numbers T.number_of cells.now) }
+    requires runs { RunsGone cells.now }
+    ensures { IsSpot (ranged T.number_of first last) cells.now result }
+{
+    let at = reach(cells, first, last)?.at;
     if is_within(first, last, cells[at].item.number()) {
-        Some(Found { from, at })
+        Some(at)
     } else {
         None
     }

@@ -6,7 +6,8 @@ ghost use Rattle.amqp_unsettled.specs.Inner.Rows.{IsRow, Takes, items_in, number
 
 use crate::cells::{Cell, Cells};
 use crate::numbered::Numbered;
-use crate::spots::{span, spot};
+use crate::serial::is_within;
+use crate::spots::{Found, reach, span, spot};
 
 impl<T: Numbered> Cells<T> {
     /// The cells in use.
@@ -34,7 +35,7 @@ impl<T: Numbered> Cells<T> {
         ensures { result ≡ find (ranged T.number_of first last) (items_in self.now) }
     {
         let cells = self.in_use();
-        let at = span(cells, first, last)?.at;
+        let at = span(cells, first, last)?;
         Some(cells[at].item)
     }
 
@@ -54,8 +55,12 @@ impl<T: Numbered> Cells<T> {
         ensures row { IsRow T.number_of self.new }
         ensures takes { Takes (ranged T.number_of first last) (items_in self.old) result (items_in self.new) }
     {
-        let found = span(self.in_use(), first, last)?;
-        Some(self.cut(found.from, found.at))
+        let Found { from, at } = reach(self.in_use(), first, last)?;
+        self.join(from, at);
+        if !is_within(first, last, self.cells[self.head + at].item.number()) {
+            return None;
+        }
+        Some(self.cut(from, at))
     }
 
     /// The first item goes, where no other has gone that keeps its cell.

@@ -127,7 +127,24 @@ abbrev pub IsSpot : {X : Type 0} → (X → Bool) → List (Cell X) → Option �
 IsSpot p cs None = NonePasses p (there cs)
 IsSpot p cs (Some at) = IsAt p cs at
 
--- The same of a span: from its first cell on and before the item's all have gone.
-abbrev pub SpansTo : {X : Type 0} → (X → Bool) → List (Cell X) → Option Found → Type 0
-SpansTo p cs None = NonePasses p (there cs)
-SpansTo p cs (Some s) = IsAt p cs s.at × (s.from ≤ s.at) × FirstGone (s.at - s.from) (drop s.from cs)
+-- The cells from the first that may be in a range on to the first of these whose item is there. None before it is
+-- meant,
+-- and where it is not, none is.
+pub record IsReached {X : Type 0} (p : X → Bool) (cs : List (Cell X)) (s : Found) : Type 0 where
+  pub within : s.at < length cs
+  pub is : IsThereAt cs s.at
+  pub order : s.from ≤ s.at
+  pub gone : FirstGone (s.at - s.from) (drop s.from cs)
+  pub before : NonePasses p (there (take s.at cs))
+  pub after : (c : Cell X) → slice_get cs s.at ≡ Some c → p c.item ≡ false → NonePasses p (there cs)
+
+abbrev pub ReachesTo : {X : Type 0} → (X → Bool) → List (Cell X) → Option Found → Type 0
+ReachesTo p cs None = NonePasses p (there cs)
+ReachesTo p cs (Some s) = IsReached p cs s
+
+-- Cell by cell these have the same item, which is there in both or in neither.
+abbrev pub Alike : {X : Type 0} → List (Cell X) → List (Cell X) → Type 0
+Alike [] [] = Unit {0}
+Alike [] (d ∷ ds) = ⊥
+Alike (c ∷ cs) [] = ⊥
+Alike (c ∷ cs) (d ∷ ds) = (c.item ≡ d.item) × (is_there c ≡ is_there d) × Alike cs ds

@@ -16,10 +16,9 @@ returns-in_err-at g c =
 pub returns : goal.returns
 returns g c =
     let p = ranged g.T.Numbered.number_of c.args.first c.args.last in
-    let v = c.in_ok-at.ensures in
+    let is = c.in_ok-at.ensures in
     let cs = c.in_use-cells.result.now in
-    let at = c.in_ok-at.field-0.at in
-    let is = v.0 in
     ap (λ (x : Cell _). Some x.item) (sym c.index-cells-at.is)
-    ∙ at_found p cs at is c.index-cells-at.result (got cs at c.index-cells-at.result is.within c.index-cells-at.is)
+    ∙ at_found p cs c.in_ok-at.at is c.index-cells-at.result
+    (got cs c.in_ok-at.at c.index-cells-at.result is.within c.index-cells-at.is)
     ∙ ap (λ ds. find p (there ds)) c.in_use-cells.ensures

@@ -1,10 +1,9 @@
 use Rattle.std.proofs.Common.{◌<◌, ◌^◌, arith, length, sym, subst, ap, ◌∙◌}
 use Rattle.amqp_unsettled.specs.declared.cells.Cell.{Cell}
-use Rattle.amqp_unsettled.specs.Serial.{is_within}
 use Rattle.amqp_unsettled.specs.Inner.Order.{Below, IsRising, Begins}
 use Rattle.amqp_unsettled.specs.Inner.Rows.{fars}
-use Rattle.amqp_unsettled.proofs.SpotLemmas.{fars_rise, fars_half, range_past, range_here, range_other}
-use Rattle.amqp_unsettled.proofs.spots.span.Goals as goal
+use Rattle.amqp_unsettled.proofs.SpotLemmas.{fars_rise, fars_half, range_past, range_before, range_other}
+use Rattle.amqp_unsettled.proofs.spots.reach.Goals as goal
 
 pub place-from-requires-clause-rising : goal.place-from-requires-clause-rising
 place-from-requires-clause-rising g c =
@@ -22,27 +21,12 @@ returns-then-at-cells g c =
     let base = c.number-base.result in
     let b = subst (λ t. Begins (fars f base cs) t c.place-from.result) c.start_of.ensures c.place-from.ensures in
     let v = c.there_from-at.ensures in
-    range_past f base c.args.first c.args.last (omega arith) (omega arith) cs c.place-from.result c.there_from-at.result
+    range_past f base c.args.first c.args._last (omega arith) (omega arith) cs c.place-from.result
+    c.there_from-at.result
     b v.order v.gone c.if-at-cells.true
 
-pub returns-then-is_within : goal.returns-then-is_within
-returns-then-is_within g c =
-    let f = g.T.Numbered.number_of in
-    let cs = c.args.cells.now in
-    let base = c.number-base.result in
-    let b = subst (λ t. Begins (fars f base cs) t c.place-from.result) c.start_of.ensures c.place-from.ensures in
-    let v = c.there_from-at.ensures in
-    let number = c.number.ensures ∙ ap (λ (x : Cell _). f x.item) (sym c.index-cells-at.is) in (
-      range_here f base c.args.first c.args.last (omega arith) (omega arith) cs c.place-from.result
-          c.there_from-at.result
-          b v.order v.gone c.index-cells-at.result c.if-at-cells.false c.index-cells-at.is v.is
-          (ap (is_within c.args.first c.args.last) (sym number) ∙ sym c.is_within.ensures ∙ c.if-is_within.true),
-      v.order,
-      v.gone,
-    )
-
-pub returns-else-is_within : goal.returns-else-is_within
-returns-else-is_within g c =
+pub returns : goal.returns
+returns g c =
     let f = g.T.Numbered.number_of in
     let cs = c.args.cells.now in
     let base = c.number-base.result in
@@ -54,8 +38,13 @@ returns-else-is_within g c =
     (fars_half f cs c.index-cells-0.result some c.index-cells-0.is c.requires.small c.requires.serial) in
     let b = subst (λ t. Begins (fars f base cs) t c.place-from.result) c.start_of.ensures c.place-from.ensures in
     let v = c.there_from-at.ensures in
-    let number = c.number.ensures ∙ ap (λ (x : Cell _). f x.item) (sym c.index-cells-at.is) in
-    range_other f base c.args.first c.args.last (omega arith) (omega arith) cs c.place-from.result
-    c.there_from-at.result
-    b v.order v.gone c.index-cells-at.result c.if-at-cells.false c.index-cells-at.is v.is r half
-    (ap (is_within c.args.first c.args.last) (sym number) ∙ sym c.is_within.ensures ∙ c.if-is_within.false)
+    record {
+      within = c.if-at-cells.false;
+      is = v.is;
+      order = v.order;
+      gone = v.gone;
+      before = range_before f base c.args.first c.args._last (omega arith) (omega arith) cs c.place-from.result
+          c.there_from-at.result b v.order v.gone;
+      after = λ d e w. range_other f base c.args.first c.args._last (omega arith) (omega arith) cs c.place-from.result
+          c.there_from-at.result b v.order v.gone d e v.is r half w;
+    }
