@@ -85,6 +85,10 @@ def bodies_are_data_values_and_sequences():
         assert (came.body, came.kind) == wanted, (body, came.body, came.kind)
     two = Message.decode(Message([1], kind="sequence").encode() + Message([2, 3], kind="sequence").encode())
     assert (two.body, two.kind) == ([1, 2, 3], "sequence")
+    # what a program has made is read as well as what came
+    for body in (bytearray(b"ab"), [bytearray(b"a"), b"b"]):
+        made = Message(body, kind="data")
+        assert (made.body, made.kind) == (b"ab", "data") and "ab" in repr(made)
     for body, kind, wanted in (("a", "data", TypeError), (1, "other", ValueError), ([1], "data", TypeError)):
         raises(lambda: Message(body, kind=kind), wanted)
     raises(lambda: Message("a", topic="b"), TypeError)
@@ -166,8 +170,22 @@ def the_end_of_a_value_is_found_without_reading_it():
     ]:  # fmt: skip
         of = write(value)
         assert end_of(b"\x40" + of + b"rest", 1) == len(of) + 1, value
+        for cut in range(len(of)):
+            raises(lambda: end_of(of[:cut]), Malformed)
     for of in (b"", b"\xa1\x05ab", b"\xff", b"\x00", b"\x00\x40", b"\x01", b"\xd0\x00"):
         raises(lambda: end_of(of), Malformed)
+    # a code's first half says how many bytes follow, or how wide their size is (part 1, section 1.2)
+    codes = [*range(0x40, 0x46), *range(0x50, 0x57), 0x60, 0x61, *range(0x70, 0x75), *range(0x80, 0x85), 0x94, 0x98]
+    sized = {code | wide for code in (0xA0, 0xA1, 0xA3, 0xC0, 0xC1, 0xE0) for wide in (0, 0x10)}
+    widths = {0x4: 0, 0x5: 1, 0x6: 2, 0x7: 4, 0x8: 8, 0x9: 16}
+    for code in range(1, 256):
+        if code in codes:
+            assert end_of(bytes([code, *range(16)])) == 1 + widths[code >> 4]
+        elif code in sized:
+            size = (7).to_bytes(4 if code & 0x10 else 1, "big")
+            assert end_of(bytes([code, *size, *range(7)])) == 8 + len(size)
+        else:
+            raises(lambda: end_of(bytes([code, *range(16)])), Malformed)
     # a descriptor of a descriptor of .. takes no more than its bytes
     raises(lambda: end_of(b"\x00" * 100000), Malformed)
 

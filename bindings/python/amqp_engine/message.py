@@ -26,6 +26,7 @@ _CODES = {code: kind for kind, code in _KINDS.items()}
 _FIELDS: Dict[int, Any] = {HEADER: Header, PROPERTIES: Properties}
 _BEFORE = (HEADER, DELIVERY_ANNOTATIONS, MESSAGE_ANNOTATIONS, PROPERTIES, APPLICATION_PROPERTIES)
 _NO_PLACES: List[Section] = []
+_BYTES = (bytes, bytearray)
 _M = TypeVar("_M", bound="Message")
 
 
@@ -101,7 +102,8 @@ class Message:
     def decode(cls: Type[_M], payload: bytes) -> _M:
         """The message whose bytes these are. Raises `Malformed` where they are no sections."""
         message = cls.__new__(cls)
-        message._came, message._places = bytes(payload), sections_of(payload)
+        message._came = came = bytes(payload)
+        message._places = sections_of(came)
         message._values, message._changed = {}, set()
         return message
 
@@ -109,7 +111,8 @@ class Message:
         """Its bytes, as the payload of a delivery."""
         if not self._places:
             codes = sorted(self._changed)
-            return b"".join(self._body_bytes(it) if it in BODY else self._bytes_of(it) for it in codes)
+            parts = [self._body_bytes(it) if it in BODY else self._bytes_of(it) for it in codes]
+            return b"".join(parts)
         if not self._changed:
             return self._came
         parts = [self._bytes_of(code) for code in _BEFORE]
@@ -156,24 +159,34 @@ class Message:
     @property
     def kind(self) -> Optional[str]:
         """What the body is: `"data"`, `"value"` or `"sequence"`; `None` where there is none."""
-        code = next((code for code in BODY if code in self._changed), None)
-        if code is None:
-            code = next((it.code for it in self._places if it.code in BODY), None)
+        code = self._body_code()
         return None if code is None else _CODES[code]
+
+    def _body_code(self) -> Optional[int]:
+        """The code of the body's sections; `None` where there is none."""
+        if self._changed:
+            for code in BODY:
+                if code in self._changed:
+                    return code
+        for it in self._places:
+            if it.code in BODY:
+                return it.code
+        return None
 
     @property
     def body(self) -> Any:
         """The body: `bytes` of data sections, joined; the value; or the list of a sequence. To assign it makes a body
         of the kind that its type has by default."""
-        kind = self.kind
-        if kind is None:
+        code = self._body_code()
+        if code is None:
             return None
-        parts = self._parts(_KINDS[kind])
-        if kind == KIND_VALUE:
+        parts = self._parts(code)
+        if code == VALUE:
             return parts[0]
-        if not all(isinstance(it, bytes if kind == KIND_DATA else list) for it in parts):
-            raise Malformed(f"a section of a {kind} that is another value")
-        return b"".join(parts) if kind == KIND_DATA else [item for part in parts for item in part]
+        for it in parts:
+            if not isinstance(it, _BYTES if code == DATA else list):
+                raise Malformed(f"a section of a {_CODES[code]} that is another value")
+        return b"".join(parts) if code == DATA else [item for part in parts for item in part]
 
     @body.setter
     def body(self, body: Any) -> None:
@@ -183,7 +196,8 @@ class Message:
         """The values of the body's sections."""
         if code not in self._values:
             self._values[code] = [read(self._came, it.value_at)[0] for it in self._places if it.code == code]
-        return list(self._values[code])
+        parts: List[Any] = self._values[code]
+        return parts
 
     def _put_body(self, body: Any) -> None:
         new, parts = _body_of(body, None)
@@ -262,12 +276,12 @@ class Message:
 def _body_of(body: Any, kind: Optional[str]) -> Tuple[int, List[Any]]:
     """The code of a body's sections, and their values."""
     if kind is None:
-        return (DATA if isinstance(body, (bytes, bytearray)) else VALUE), [body]
+        return (DATA if isinstance(body, _BYTES) else VALUE), [body]
     if kind not in _KINDS:
         raise ValueError(f"no kind of a body: {kind!r}")
     is_many = kind == KIND_DATA and isinstance(body, (list, tuple))
     parts = list(body) if is_many else [list(body) if kind == KIND_SEQUENCE else body]
-    if kind == KIND_DATA and not all(isinstance(it, (bytes, bytearray)) for it in parts):
+    if kind == KIND_DATA and not all(isinstance(it, _BYTES) for it in parts):
         raise TypeError("a data section that is no bytes")
     return _KINDS[kind], parts
 

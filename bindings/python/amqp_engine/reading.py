@@ -48,6 +48,14 @@ _FIXED: Dict[int, Tuple[int, Callable[[bytes], Any]]] = {
     0x94: (16, Decimal), 0x98: (16, lambda of: uuid.UUID(bytes=of)),
 }  # fmt: skip
 _SIZED = (0xA0, 0xA1, 0xA3, 0xC0, 0xC1, 0xE0)
+_NONE, _ENDS = 256, "the bytes end inside a value"
+# by code, and last for none: how many bytes follow; how wide the size is that does, below 0; `_NONE` where no type has it
+_FOLLOWS = [_NONE] * 257
+_FOLLOWS[0] = 0
+for _code, (_count, _) in _FIXED.items():
+    _FOLLOWS[_code] = _count
+for _code in _SIZED:
+    _FOLLOWS[_code], _FOLLOWS[_code | 0x10] = -1, -4
 _VARIABLE: Dict[int, Callable[[bytes], Any]] = {0xA0: bytes, 0xA1: lambda of: of.decode(), 0xA3: lambda of: Symbol(of.decode("ascii"))}
 
 
@@ -63,15 +71,21 @@ def end_of(of: bytes, at: int = 0) -> int:
     """Where the value at `at` ends, of which the sizes alone are looked at. Raises `Malformed` where none stands there."""
     end, left = len(of), 1
     while left:
-        start = _end(at, 1, end)
-        code = of[at]
-        if code == 0:
+        code = of[at] if at < end else _NONE
+        follows, at = _FOLLOWS[code], at + 1
+        if follows < 0:
+            # a size of so many bytes, and then as many as it says
+            start = at - follows
+            at = start + int.from_bytes(of[at:start], "big")
+        elif code == 0:
             # a descriptor, and what it describes
-            at, left = start, left + 1
-            continue
-        if code not in _FIXED and code & 0xEF not in _SIZED:
-            raise Malformed(f"no type has the code {code:02x}")
-        at = _end(start, _FIXED[code][0], end) if code in _FIXED else _extent(code, of, start, end)[1]
+            left += 2
+        elif follows == _NONE:
+            raise Malformed(_ENDS if code == _NONE else f"no type has the code {code:02x}")
+        else:
+            at += follows
+        if at > end:
+            raise Malformed(_ENDS)
         left -= 1
     return at
 
@@ -79,7 +93,7 @@ def end_of(of: bytes, at: int = 0) -> int:
 def _end(at: int, count: int, end: int) -> int:
     """Where so many bytes end that have to end in time."""
     if at + count > end:
-        raise Malformed("the bytes end inside a value")
+        raise Malformed(_ENDS)
     return at + count
 
 
@@ -109,8 +123,11 @@ def _coded(code: int, of: bytes, at: int, end: int, depth: int) -> Tuple[Any, in
 
 def _extent(code: int, of: bytes, at: int, end: int) -> Tuple[int, int]:
     """From where to where the data is, before which its size stands."""
-    start = _end(at, _width(code), end)
-    return start, _end(start, _unsigned(of[at:start]), end)
+    start = at + (4 if code & 0x10 else 1)
+    stop = start + int.from_bytes(of[at:start], "big")
+    if stop > end:
+        raise Malformed(_ENDS)
+    return start, stop
 
 
 def _width(code: int) -> int:

@@ -24,6 +24,9 @@ _NAMED: Dict[str, int] = {
 
 
 _HEADS = {code: bytes([0x00, 0x53, code]) for code in range(HEADER, FOOTER + 1)}
+_CODES = {head: code for code, head in _HEADS.items()}
+# without the call of Python's that a named tuple makes
+_new = tuple.__new__
 
 
 class Section(NamedTuple):
@@ -38,19 +41,19 @@ class Section(NamedTuple):
 def sections_of(of: bytes) -> List[Section]:
     """The sections of a message, of whose values only the sizes are looked at. Raises `Malformed` where something else
     stands there."""
-    found, at = [], 0
-    while at < len(of):
-        code, value_at = _descriptor(of, at)
+    found, at, size = [], 0, len(of)
+    while at < size:
+        code, value_at = _CODES.get(of[at : at + 3]), at + 3
+        if code is None:
+            code, value_at = _descriptor(of, at)
         end = end_of(of, value_at)
-        found.append(Section(code, at, value_at, end))
+        found.append(_new(Section, (code, at, value_at, end)))
         at = end
     return found
 
 
 def _descriptor(of: bytes, at: int) -> Tuple[int, int]:
-    """The code of the section at `at`, and where its value begins."""
-    if of[at : at + 2] == b"\x00\x53" and len(of) > at + 2 and HEADER <= of[at + 2] <= FOOTER:
-        return of[at + 2], at + 3
+    """The code of the section at `at`, by its name or in another spelling, and where its value begins."""
     if of[at]:
         raise Malformed("a message's section that is no described value")
     said, end = read(of, at + 1)
