@@ -18,6 +18,7 @@ from .performatives import Open, Transfer
 from .records import (
     ABORTED, ATTACHED, ATTACH_WANTED, AVAILABLE, BEGIN_WANTED, BEGUN, CLOSED, COUNTED, CREDITED, DETACHED, DISPOSITION, DRAIN, ECHO, ENDED, FLOW, FORMATTED,
     FOR_GOOD, LINKED, MORE, NONE, NUMBERED, OF_RECEIVER, OPENED, RECORD, REFUSED, SETTLED, STATED, TAGGED, TRANSFER, WITH_ERROR, Delivery, Record, head_of,
+    tuple_of,
 )  # fmt: skip
 from .requesting import REMOTE_OPEN, SEND, BadArgument, NoMemory, numbers
 
@@ -188,7 +189,7 @@ class Driver(Links):
         if status not in (lib.FULL, lib.BAD_SIZE, lib.AGAIN, lib.WAITS, lib.OVER) and not (status == lib.NO_MEMORY and took.taken):
             self._judge(status)
         said = memoryview(self._records)[: took.written * RECORD.size]
-        records = [Record._make(it) for it in RECORD.iter_unpack(said)]
+        records = [tuple_of(Record, it) for it in RECORD.iter_unpack(said)]
         if at:
             records = [_moved(it, at) for it in records]
         return Taken(took.taken, records, took.wanted, status == lib.BAD_SIZE, status == lib.OVER, status == lib.WAITS)

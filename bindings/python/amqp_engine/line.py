@@ -282,15 +282,13 @@ class Line:
             runs, session.runs = session.runs, []
             for first, last, outcome in runs:
                 self._ask(lambda: self.driver.link_settle(session.number, RECEIVER, first, last, True, outcome))
-                for _ in self.driver.link_settled(session.number, RECEIVER, first, last):
-                    pass
+                self.driver.link_given_back(session.number, RECEIVER, first, last)
 
     def dispose(self, session: Session, disposition: Disposition) -> None:
         """A delivery that came is settled with any state, as rejected with an error."""
         self._settle_runs()
         self.driver.link_dispose(session.number, disposition)
-        for _ in self.driver.link_settled(session.number, RECEIVER, disposition.first, disposition.first):
-            pass
+        self.driver.link_given_back(session.number, RECEIVER, disposition.first, disposition.first)
         self.wire.ask()
 
     def settle_now(self, session: Session) -> None:

@@ -14,7 +14,7 @@ from typing import Any, Iterator, List, NamedTuple, Optional, Tuple
 
 from . import library as lib
 from .performatives import Attach, Disposition, Error
-from .records import FLOW, RECORD, Delivery, Record, head_of
+from .records import FLOW, RECORD, Delivery, Record, head_of, tuple_of
 from .requesting import BadArgument, Requests
 
 #: What an event is: `LinkEvent.kind`; the comments of `include/amqp1/links.h` have each. One that is not named here is of a later version: pass over it
@@ -117,16 +117,16 @@ class Links(Requests):
         """Tells the peer's Attach that came first, as the record of `ATTACH_WANTED`, to the link that answers it, which `link_attach` has attached
         under this handle. An event of `EVENT_NOTHING` where no end has the handle. Where it raises `NoMemory` it is told again."""
         self._judge(self._functions.amqp1_link_wanted(self._here, RECORD.pack(*record), _number(link), self._event_room))
-        return LinkEvent._make(_EVENT.unpack(self._event_room))
+        return tuple_of(LinkEvent, _EVENT.unpack(self._event_room))
 
     def link_event(self, record: Record, given: int = 0) -> LinkEvent:
         """Tells a record of `take` to the links of its session. Every record is told once, in order. `given` is kept with a delivery that begins by it
         and is unsettled, and given back with it. Where it raises `NoMemory` the record is told again. Raises `Refusal` (`NotNext`) where the
         delivery's number does not lie after each one that is unsettled, by less than 2^31 (section 2.8.10)."""
-        status = self._functions.amqp1_link_event(self._here, RECORD.pack(*record), _number(given, 64), self._event_room)
+        status = self._functions.amqp1_link_event(self._here, RECORD.pack(*record), given and _number(given, 64), self._event_room)
         if status:
             self._judge(status)
-        return LinkEvent._make(_EVENT.unpack(self._event_room))
+        return tuple_of(LinkEvent, _EVENT.unpack(self._event_room))
 
     def link_respond(self, event: LinkEvent, available: int = 0) -> bool:
         """Sends what a link owes for an event: a flow, where credit is to be renewed or the peer asked for one; a Detach, in answer to the peer's, or
@@ -140,7 +140,7 @@ class Links(Requests):
         has gone out. Called after each record until it answers None, it tells each such link once: as an event of `EVENT_DUE`, for `link_respond`."""
         if not self._is_done(self._functions.amqp1_link_due(self._here, _number(session), self._event_room)):
             return None
-        return LinkEvent._make(_EVENT.unpack(self._event_room))
+        return tuple_of(LinkEvent, _EVENT.unpack(self._event_room))
 
     def link_pay(self, session: int) -> None:
         """What links of the session owe that is due is sent."""
@@ -254,7 +254,7 @@ class Links(Requests):
     def _each(self, call: Any, *given: int) -> Iterator[Unsettled]:
         """Deliveries, one after the other, each taken out as the iterator comes to it."""
         while self._is_done(call(self._here, *given, self._unsettled_at)):
-            yield Unsettled._make(_UNSETTLED.unpack(self._unsettled_room))
+            yield tuple_of(Unsettled, _UNSETTLED.unpack(self._unsettled_room))
 
     def _is_done(self, status: int) -> bool:
         if status:

@@ -224,11 +224,12 @@ class Receiver(Link):
     def _renew(self) -> None:
         """Credit for what was taken, once that is half of it, and the peer has used half of what it was granted last;
         all of it where the peer counts late."""
-        room = self._most - len(self._queue) - bool(self._parts) - self._unused
-        is_late = self._line is not None and self._line.counts_late
-        is_used = not self._unused or not is_late and 2 * self._unused < self._granted
-        if is_used and room >= max(1, self._most // 2) and not self._is_drained and self._most:
-            self.grant(self._unused + room)
+        unused, line = self._unused, self._line
+        if unused and (2 * unused >= self._granted or line is not None and line.counts_late):
+            return
+        room = self._most - len(self._queue) - bool(self._parts) - unused
+        if room >= max(1, self._most // 2) and not self._is_drained and self._most:
+            self.grant(unused + room)
 
     def _take(self, line: Line, record: Record, event: LinkEvent, data: bytes) -> None:
         if event.kind == EVENT_PART:

@@ -17,6 +17,9 @@ from .requesting import BadArgument
     NUMBERED, SETTLED, MORE, ABORTED, OF_RECEIVER, STATED, DRAIN, ECHO, WITH_ERROR, FOR_GOOD, CREDITED, COUNTED, LINKED, FORMATTED, TAGGED, AVAILABLE,
 ) = (1 << at for at in range(16))  # fmt: skip
 
+#: Makes a named tuple of what `struct` has unpacked, without the call of Python's that its own constructors make
+tuple_of = tuple.__new__
+
 #: No session, or no link
 NONE = 0xFFFFFFFF
 

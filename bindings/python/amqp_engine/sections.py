@@ -6,6 +6,7 @@ from dataclasses import dataclass
 from typing import Any, ClassVar, Dict, List, NamedTuple, Optional, Tuple
 
 from .performatives import Performative
+from .records import tuple_of
 from .values import Malformed, Ulong, end_of, read, write
 
 #: The codes of the sections, in the standard's order
@@ -25,8 +26,6 @@ _NAMED: Dict[str, int] = {
 
 _HEADS = {code: bytes([0x00, 0x53, code]) for code in range(HEADER, FOOTER + 1)}
 _CODES = {head: code for code, head in _HEADS.items()}
-# without the call of Python's that a named tuple makes
-_new = tuple.__new__
 
 
 class Section(NamedTuple):
@@ -47,7 +46,7 @@ def sections_of(of: bytes) -> List[Section]:
         if code is None:
             code, value_at = _descriptor(of, at)
         end = end_of(of, value_at)
-        found.append(_new(Section, (code, at, value_at, end)))
+        found.append(tuple_of(Section, (code, at, value_at, end)))
         at = end
     return found
 

@@ -91,25 +91,30 @@ class Sender(Link):
                 # what was sent settled goes out before more is
                 await asyncio.sleep(0)
             outcome = future.result()
+        elif timeout is not None:
+            outcome = await self._outcome(sending, timeout)
         else:
-            is_plain = timeout is None and sending.number is not None
-            outcome = await (future if is_plain else self._outcome(sending, timeout))
+            try:
+                outcome = await future
+            finally:
+                self._waits_no_more(sending)
         if raises and not outcome.is_taken:
             raise NotAccepted(outcome)
         return outcome
 
-    async def _outcome(self, sending: Sending, timeout: Optional[float]) -> Outcome:
-        """What becomes of a message for which somebody waits so long, and which does not go out once nobody does."""
-        timer = None
-        if timeout is not None:
-            timer = asyncio.get_running_loop().call_later(timeout, sending.time_out, timeout)
+    async def _outcome(self, sending: Sending, timeout: float) -> Outcome:
+        """What becomes of a message for which somebody waits so long."""
+        timer = asyncio.get_running_loop().call_later(timeout, sending.time_out, timeout)
         try:
             return await sending.future
         finally:
-            if timer is not None:
-                timer.cancel()
-            if sending.number is None and sending in self._waiting:
-                self._waiting.remove(sending)
+            timer.cancel()
+            self._waits_no_more(sending)
+
+    def _waits_no_more(self, sending: Sending) -> None:
+        """Nobody waits for a message any more: it does not go out, where it has not."""
+        if sending.number is None and sending in self._waiting:
+            self._waiting.remove(sending)
 
     @property
     def credit(self) -> int:

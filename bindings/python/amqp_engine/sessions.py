@@ -95,8 +95,7 @@ class ServedSession:
 
     def take_out(self, role: bool, number: int) -> None:
         """A delivery that was settled is let go."""
-        for _ in self._engine.link_settled(self.number, role, number, number):
-            pass
+        self._engine.link_given_back(self.number, role, number, number)
 
     def owe(self, event: LinkEvent, available: int = 0) -> None:
         """What a link owes is sent, or is due later."""
