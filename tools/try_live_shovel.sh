@@ -23,9 +23,10 @@ shovel() {
     of_rabbitmq set_parameter shovel "$1" "{$words}" >"$folder/shovel"
 }
 
-# Whether a queue comes to have so many messages, of which none is on the way: QUEUE COUNT
+# Whether a queue comes to have so many messages, of which none is on the way: QUEUE COUNT. The shovel takes some twenty
+# a second.
 comes_to_have() {
-    for _ in $(seq 30); do
+    for _ in $(seq $((30 + many / 4))); do
         ! of_rabbitmq list_queues name messages | grep -qx "$1"$'\t'"$2" || return 0
         sleep 0.3
     done
