@@ -7,3 +7,4 @@ mod PartLemmas
 pub mod PairLemmas
 pub mod PairCalls
 mod PairLawLemmas
+pub mod HalvesLemmas

@@ -121,3 +121,40 @@ PartStep v head result w = TriedStep v head (belongs v.current head) result w
 abbrev pub number_in : Option Delivery → Option ℕ
 number_in None = None
 number_in (Some d) = Some d.number
+
+-- ---- a part in two halves
+
+-- what a part is to this delivery, which has it already, unless that is too large
+abbrev pub told_of : AssemblyView → PartEnd → Delivery → Result Part PartError
+told_of v end d = if fits v.limit d.size end then Ok (part_of d (is_none v.current) end) else Err TooLarge
+
+abbrev pub told_or : AssemblyView → PartHead → Result Delivery PartError → Result Part PartError
+told_or v head (Err error) = Err error
+told_or v head (Ok d) = told_of v (end_of head.more head.aborted) (with_part d head)
+
+-- what is answered to a part, before it is taken
+abbrev pub prepared : AssemblyView → PartHead → Result Part PartError
+prepared v head = told_or v head (belongs v.current head)
+
+-- the message format of the delivery that a part belongs to: that of its first part
+abbrev pub format_of : Option Delivery → PartHead → Option ℕ
+format_of None head = head.format
+format_of (Some d) head = d.format
+
+-- the delivery that is under way once this part of it is taken
+abbrev pub left_by : PartEnd → Option ℕ → Part → Option Delivery
+left_by More format p = Some (record { number = p.number; format = format; settled = p.settled; size = p.size })
+left_by Last format p = None
+left_by Aborted format p = None
+
+-- the part that was prepared for this head is taken
+abbrev pub finished : AssemblyView → PartHead → Part → AssemblyView
+finished v head p = record v { current = left_by p.end (format_of v.current head) p }
+
+-- A part that is prepared and then finished is accepted.
+abbrev pub HalvesTake : Type 0
+HalvesTake = (v : AssemblyView) (head : PartHead) (p : Part) → Ok p ≡ prepared v head → PartStep v head (Ok p) (finished v head p)
+
+-- One that is refused as it is prepared is refused, and changes nothing.
+abbrev pub HalvesRefuse : Type 0
+HalvesRefuse = (v : AssemblyView) (head : PartHead) (error : PartError) → Err error ≡ prepared v head → PartStep v head (Err error) v

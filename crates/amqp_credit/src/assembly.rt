@@ -1,9 +1,9 @@
 //! The parts of the deliveries that come over one link.
 
 ghost use Rattle.std.specs.Prelude.{◌≡◌};
-ghost use Rattle.amqp_credit.specs.Assembly.{new_assembly, PartStep, TakenStep, begun, belongs, differs};
-ghost use Rattle.amqp_credit.specs.Assembly.{goes_on, with_part, settles, end_of, left_under_way, part_of, fits};
-ghost use Rattle.amqp_credit.specs.Assembly.{number_in};
+ghost use Rattle.amqp_credit.specs.Assembly.{new_assembly, PartStep, begun, belongs, differs};
+ghost use Rattle.amqp_credit.specs.Assembly.{goes_on, with_part, settles, end_of, part_of, fits};
+ghost use Rattle.amqp_credit.specs.Assembly.{format_of, finished, number_in, prepared};
 
 use crate::part::{Part, PartEnd, PartError, PartHead, PartTag};
 use std::marker::Model;
@@ -60,23 +60,52 @@ impl Assembly {
     ///
     /// # Errors
     /// Each [`PartError`] says when. Nothing changes then.
+    #[tactic(auto, using(crate::proofs::HalvesLemmas::takes, crate::proofs::HalvesLemmas::refuses))]
     pub fn on_part(&mut self, head: PartHead) -> Result<Part, PartError>
         ensures { PartStep self.old head result self.new }
     {
-        let delivery = belongs(self.current, head)?;
-        self.take(with_part(delivery, head), end_of(head))
+        match self.prepare(head) {
+            Ok(part) => {
+                self.finish(head, part);
+                Ok(part)
+            }
+            Err(error) => Err(error),
+        }
     }
 
-    /// Takes a part whose delivery has it already, if that is not too large.
-    fn take(&mut self, delivery: Delivery, end: PartEnd) -> Result<Part, PartError>
-        ensures { TakenStep self.old delivery end result self.new }
+    /// The first half of [`Assembly::on_part`], for a caller who may still refuse the part: what it answers. Nothing
+    /// changes. What is answered is given to [`Assembly::finish`], with the same head, before any other call.
+    ///
+    /// # Errors
+    /// Those of [`Assembly::on_part`].
+    #[inline(always)]
+    pub fn prepare(&self, head: PartHead) -> Result<Part, PartError>
+        ensures { result ≡ prepared self.now head }
     {
-        if !fits(self.limit, delivery.size, end) {
-            return Err(PartError::TooLarge);
+        let delivery = with_part(belongs(self.current, head)?, head);
+        let end = end_of(head);
+        if fits(self.limit, delivery.size, end) {
+            Ok(part_of(delivery, self.current.is_none(), end))
+        } else {
+            Err(PartError::TooLarge)
         }
-        let is_first = self.current.is_none();
-        self.current = left_under_way(end, delivery);
-        Ok(part_of(delivery, is_first, end))
+    }
+
+    /// The part that was prepared for this head is taken: its delivery has it from now on. One that was not prepared so is
+    /// taken all the same, as it says.
+    #[inline(always)]
+    pub fn finish(&mut self, head: PartHead, part: Part)
+        ensures { self.new ≡ finished self.old head part }
+    {
+        self.current = match part.end {
+            PartEnd::More => Some(Delivery {
+                number: part.number,
+                format: format_of(self.current, head),
+                settled: part.settled,
+                size: part.size,
+            }),
+            PartEnd::Last | PartEnd::Aborted => None,
+        };
     }
 
     /// The number of the delivery that is under way, if there is one.
@@ -88,6 +117,7 @@ impl Assembly {
 }
 
 /// The delivery that a part belongs to, before it counts: that under way, or else one that it begins.
+#[inline(always)]
 fn belongs(current: Option<Delivery>, head: PartHead) -> Result<Delivery, PartError>
     ensures { result ≡ belongs current head }
 {
@@ -139,6 +169,7 @@ fn differs(first: Option<u32>, given: Option<u32>) -> bool
 }
 
 /// A delivery with one part more. What aborts it counts as settled, and adds no bytes.
+#[inline(always)]
 fn with_part(delivery: Delivery, head: PartHead) -> Delivery
     ensures { result ≡ with_part delivery head }
 {
@@ -151,6 +182,7 @@ fn with_part(delivery: Delivery, head: PartHead) -> Delivery
 }
 
 /// Whether a part settles its delivery, or aborts it.
+#[inline(always)]
 fn settles(head: PartHead) -> bool
     ensures { result ≡ settles head }
 {
@@ -158,6 +190,7 @@ fn settles(head: PartHead) -> bool
 }
 
 /// Whether the delivery ends with a part.
+#[inline(always)]
 fn end_of(head: PartHead) -> PartEnd
     ensures { result ≡ end_of head.more head.aborted }
 {
@@ -170,17 +203,19 @@ fn end_of(head: PartHead) -> PartEnd
     }
 }
 
-/// The delivery that is under way after a part.
-fn left_under_way(end: PartEnd, delivery: Delivery) -> Option<Delivery>
-    ensures { result ≡ left_under_way end delivery }
+/// The message format of the delivery that a part belongs to: that of its first part.
+#[inline(always)]
+fn format_of(current: Option<Delivery>, head: PartHead) -> Option<u32>
+    ensures { result ≡ format_of current head }
 {
-    match end {
-        PartEnd::More => Some(delivery),
-        PartEnd::Last | PartEnd::Aborted => None,
+    match current {
+        Some(delivery) => delivery.format,
+        None => head.format,
     }
 }
 
 /// What a part is to its delivery, which has it already.
+#[inline(always)]
 fn part_of(delivery: Delivery, is_first: bool, end: PartEnd) -> Part
     ensures { result ≡ part_of delivery is_first end }
 {
@@ -194,6 +229,7 @@ fn part_of(delivery: Delivery, is_first: bool, end: PartEnd) -> Part
 }
 
 /// Whether a delivery of this size is within the limit; 0 is none. One that is aborted always is.
+#[inline(always)]
 fn fits(limit: Option<u64>, size: u64, end: PartEnd) -> bool
     ensures { result ≡ fits limit size end }
 {

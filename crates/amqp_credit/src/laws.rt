@@ -4,6 +4,7 @@ ghost use Rattle.amqp_credit.specs.SenderHistory.{OfSenders};
 ghost use Rattle.amqp_credit.specs.SenderLaws as sender;
 ghost use Rattle.amqp_credit.specs.ReceiverHistory.{OfReceivers};
 ghost use Rattle.amqp_credit.specs.ReceiverLaws as receiver;
+ghost use Rattle.amqp_credit.specs.Assembly.{HalvesRefuse, HalvesTake};
 ghost use Rattle.amqp_credit.specs.AssemblyHistory.{OfAssemblies};
 ghost use Rattle.amqp_credit.specs.AssemblyLaws as parts;
 ghost use Rattle.amqp_credit.specs.Pair.{OfPairs, NoneRefused, CreditIsKept, EndsAgree};
@@ -49,6 +50,13 @@ pub fn law_of_parts()
     ensures within { OfAssemblies (λ limit H. parts.NoneTooLarge limit H) }
     ensures refused { OfAssemblies (λ limit H. parts.RefusedForReason limit H) }
     ensures under_way { OfAssemblies (λ limit H. parts.UnderWayIsExact H) }
+{}
+
+/// Two halves of a call are the whole one: a part that is prepared and then finished is accepted as `on_part` accepts it;
+/// and one that is refused as it is prepared is refused, and changes nothing.
+pub fn law_of_halves()
+    ensures take { HalvesTake }
+    ensures refuse { HalvesRefuse }
 {}
 
 /// Of both ends of one link, where flows and deliveries come in order: what the sender begins is never refused, and no

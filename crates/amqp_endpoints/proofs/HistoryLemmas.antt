@@ -57,7 +57,7 @@ use Rattle.amqp_endpoints.specs.Forgetting.{EndsIf, RenewsIf}
 use Rattle.amqp_endpoints.specs.History.{EndpointCall, EndpointStep, HaveHistories, IsTold}
 use Rattle.amqp_endpoints.specs.History as history
 use Rattle.amqp_endpoints.specs.Places.{place_at}
-use Rattle.amqp_endpoints.specs.Reading.{credit_flow, first_attach, part_head, peer_attach}
+use Rattle.amqp_endpoints.specs.Reading.{credit_flow, first_attach, part_head, part_tag, peer_attach}
 use Rattle.amqp_endpoints.specs.Responding.{Responds}
 use Rattle.amqp_endpoints.specs.Sending.{SendsPart, is_first_of, lets_go, part_of}
 use Rattle.amqp_endpoints.specs.Settling.{IsLeft, LeavesBy, LeavesUnless, lacks_memory}
@@ -114,18 +114,18 @@ keeps false v w r h Step s = s.0
 
 part_goes : (v w : EndpointView) (r : Record) (h given : ℕ) (result : Result LinkEvent RecordError) → IsTold result → TellsPart v r h given result w
     → GoesOn v.links w.links
-part_goes v w r h given (Ok (event.Part k told)) small s = one v.links w.links (call.Takes h (part_head (place_at v.places h) r) given (Ok told))
+part_goes v w r h given (Ok (event.Part k told)) small s = one v.links w.links (call.Takes h (part_head (part_tag (place_at v.places h) r) r) given (Ok told))
     (small, keeps (keeps_tag told.part) v w r h (TakesBy v r h given (Ok told)) s.1)
 part_goes v w r h given (Ok (event.PassedOver k n)) small s =
-    one v.links w.links (call.Takes h (part_head (place_at v.places h) r) given (Err (take.Link error.NotAttached))) (tt, s.2.0)
+    one v.links w.links (call.Takes h (part_head (part_tag (place_at v.places h) r) r) given (Err (take.Link error.NotAttached))) (tt, s.2.0)
 part_goes v w r h given (Ok (event.Fault k f n)) small s =
-    one v.links w.links (call.Takes h (part_head (place_at v.places h) r) given (Err (take.Link (error.Fault f)))) (tt, s.2.0)
+    one v.links w.links (call.Takes h (part_head (part_tag (place_at v.places h) r) r) given (Err (take.Link (error.Fault f)))) (tt, s.2.0)
 part_goes v w r h given (Ok event.Nothing) small s =
-    one v.links w.links (call.Takes h (part_head (place_at v.places h) r) given (Err take.NoReceiver)) (tt, s.0)
+    one v.links w.links (call.Takes h (part_head (part_tag (place_at v.places h) r) r) given (Err take.NoReceiver)) (tt, s.0)
 part_goes v w r h given (Err no.NotNext) small s =
-    one v.links w.links (call.Takes h (part_head (place_at v.places h) r) given (Err take.NotNext)) (tt, s.0)
+    one v.links w.links (call.Takes h (part_head (part_tag (place_at v.places h) r) r) given (Err take.NotNext)) (tt, s.0)
 part_goes v w r h given (Err no.OutOfMemory) small s =
-    one v.links w.links (call.Takes h (part_head (place_at v.places h) r) given (Err take.OutOfMemory)) (tt, s.0)
+    one v.links w.links (call.Takes h (part_head (part_tag (place_at v.places h) r) r) given (Err take.OutOfMemory)) (tt, s.0)
 part_goes v w r h given (Ok (event.Attached k life)) small s = absurd s
 part_goes v w r h given (Ok (event.Flow k used)) small s = absurd s
 part_goes v w r h given (Ok (event.Settled role first last by_peer)) small s = absurd s

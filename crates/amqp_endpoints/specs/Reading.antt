@@ -48,10 +48,10 @@ is_same_tag p r = nat_le r.tag_size 32 && nat_eq r.tag_size p.tag_size && pointw
 abbrev pub part_tag : LinkPlace → Record → PartTag
 part_tag p r = if has r.flags 16384 then (if is_same_tag p r then Same else New) else Absent
 
-abbrev pub part_head : LinkPlace → Record → PartHead
-part_head p r = record {
+abbrev pub part_head : PartTag → Record → PartHead
+part_head tag r = record {
   number = if_set r 1 r.first;
-  tag = part_tag p r;
+  tag = tag;
   format = if_set r 8192 r.format;
   settled = Some (has r.flags 2);
   more = has r.flags 4;

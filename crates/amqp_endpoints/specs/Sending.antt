@@ -31,7 +31,7 @@ use Rattle.amqp_endpoints.specs.declared.endpoint.sending.SendFailure.TheVariant
 use Rattle.amqp_endpoints.specs.declared.endpoint.sending.SentDelivery.{SentDelivery}
 use Rattle.amqp_endpoints.specs.Endpoint.{EndpointView, OnLinks}
 use Rattle.amqp_endpoints.specs.declared.place.LinkPlace.{LinkPlace}
-use Rattle.amqp_endpoints.specs.Places.{PutsPlace, place_at}
+use Rattle.amqp_endpoints.specs.Places.{PutsPlace, having_sent, place_at}
 use Rattle.amqp_endpoints.specs.Settling.{LetsOneGo}
 
 -- ---- which part it is
@@ -129,7 +129,7 @@ one_more n = min (n + 1) (2 ^ 64 - 1)
 
 -- the number of a delivery that begins is kept, and that this is the last transfer of the link
 abbrev pub sent_place : EndpointView → ℕ → ℕ → Bool → LinkPlace
-sent_place v h n is_first = record (place_at v.places h) { begun = if is_first then n else (place_at v.places h).begun; sent = one_more v.sent }
+sent_place v h n is_first = having_sent (place_at v.places h) n is_first (one_more v.sent)
 
 abbrev pub NotesSent : Bool → EndpointView → ℕ → ℕ → (LinksView → LinksView → Type 0) → EndpointView → Type 0
 NotesSent is_first v h n Step w = Step v.links w.links × PutsPlace v.places h (sent_place v h n is_first) w.places

@@ -28,7 +28,7 @@ use Rattle.amqp_endpoints.specs.declared.event.RecordError.TheVariants as no
 use Rattle.amqp_endpoints.specs.declared.place.LinkPlace.{LinkPlace}
 use Rattle.amqp_endpoints.specs.Endpoint.{EndpointView, OnLinks}
 use Rattle.amqp_endpoints.specs.Places.{PutsPlace, place_at}
-use Rattle.amqp_endpoints.specs.Reading.{credit_flow, if_set, part_head, peer_attach, settled_range}
+use Rattle.amqp_endpoints.specs.Reading.{credit_flow, if_set, part_head, part_tag, peer_attach, settled_range}
 
 -- the links step, and the place of this handle is changed; nothing else is
 abbrev pub OnPlace : (LinksView → LinksView → Type 0) → ℕ → LinkPlace → EndpointView → EndpointView → Type 0
@@ -73,7 +73,7 @@ TellsFlow v r h e w = ⊥
 
 -- it is taken by the link
 abbrev pub TakesBy : EndpointView → Record → ℕ → ℕ → Result ReceivedPart TakePartError → LinksView → LinksView → Type 0
-TakesBy v r h given answer l m = TakesAt (end_at l.ends h) l h (part_head (place_at v.places h) r) given answer m
+TakesBy v r h given answer l m = TakesAt (end_at l.ends h) l h (part_head (part_tag (place_at v.places h) r) r) given answer m
 
 -- the tag of a delivery that begins is kept, where more of it follows
 abbrev pub goes_on : PartEnd → Bool
@@ -139,14 +139,18 @@ Choose false there other = other
 abbrev pub SaysNothing : EndpointView → Result LinkEvent RecordError → EndpointView → Type 0
 SaysNothing v result w = (result ≡ Ok Nothing) × (w ≡ v)
 
--- by its kind, to the link
-abbrev pub TellsLink : EndpointView → Record → ℕ → ℕ → Result LinkEvent RecordError → EndpointView → Type 0
-TellsLink v r h given result w =
-    Choose (nat_eq r.kind 6) (TellsPart v r h given result w)
-    (Choose (nat_eq r.kind 5) (TellsOk (TellsFlow v r h) result w)
+-- by its kind, to the link: one that is no Transfer
+abbrev pub TellsOther : EndpointView → Record → ℕ → Result LinkEvent RecordError → EndpointView → Type 0
+TellsOther v r h result w =
+    Choose (nat_eq r.kind 5) (TellsOk (TellsFlow v r h) result w)
     (Choose (nat_eq r.kind 3) (TellsAttach v r h (peer_attach r) result w)
     (Choose (nat_eq r.kind 8) (TellsOk (TellsDetach v r h) result w)
-    (SaysNothing v result w))))
+    (SaysNothing v result w)))
+
+-- and any
+abbrev pub TellsLink : EndpointView → Record → ℕ → ℕ → Result LinkEvent RecordError → EndpointView → Type 0
+TellsLink v r h given result w =
+    Choose (nat_eq r.kind 6) (TellsPart v r h given result w) (TellsOther v r h result w)
 
 -- one that is of no link says nothing
 abbrev pub TellsAny : Option ℕ → EndpointView → Record → ℕ → Result LinkEvent RecordError → EndpointView → Type 0

@@ -2,8 +2,13 @@
 
 ghost use Rattle.std.specs.Prelude.{◌≡◌, ◌≤◌, ◌<◌, ℕ, max, [], OnOk, OnErr, length, vec_len, vec_capacity};
 ghost use Rattle.amqp_memory.specs.Refusal.{SomeRefused};
-ghost use Rattle.amqp_endpoints.specs.Places.{PutsPlace, no_place, place_at};
+ghost use Rattle.amqp_endpoints.specs.Places.{PutsPlace, having_sent, no_place, place_at};
+ghost use Rattle.amqp_endpoints.specs.Reading.{part_tag};
+ghost use Rattle.amqp_endpoints.specs.Telling.{with_tag};
 
+use crate::reading::part_tag;
+use amqp_driver::Record;
+use amqp_links::PartTag;
 use amqp_memory::more_in_vector;
 use std::alloc::{AllocError, Global};
 use std::marker::Model;
@@ -76,6 +81,43 @@ impl Places {
         match self.list.get(handle as usize) {
             Some(place) => *place,
             None => LinkPlace::none(),
+        }
+    }
+
+    /// Keeps the tag of the delivery that has begun by this record. Where there is no place for the handle, nothing changes.
+    pub(crate) fn keep_tag(&mut self, handle: u32, told: &Record)
+        ensures { PutsPlace self.old handle (with_tag (place_at self.old handle) told.now) self.new }
+    {
+        if (handle as usize) < self.list.len() {
+            let place = &mut self.list[handle as usize];
+            place.tag_size = told.tag_size;
+            place.tag = told.tag;
+        }
+    }
+
+    /// Notes that a transfer was sent on the link, of the delivery of this number where it is the first one, with which so many had been sent in the session.
+    /// Where there is no place for the handle, nothing changes.
+    #[inline(always)]
+    pub(crate) fn note_sent(&mut self, handle: u32, number: u32, is_first: bool, sent: u64)
+        ensures { PutsPlace self.old handle (having_sent (place_at self.old handle) number is_first sent) self.new }
+    {
+        if (handle as usize) < self.list.len() {
+            let place = &mut self.list[handle as usize];
+            if is_first {
+                place.begun = number;
+            }
+            place.sent = sent;
+        }
+    }
+
+    /// What the tag of a Transfer is beside the one that is kept, which is looked at where it stands.
+    #[inline(always)]
+    pub(crate) fn part_tag(&self, handle: u32, told: &Record) -> PartTag
+        ensures { result ≡ part_tag (place_at self.now handle) told.now }
+    {
+        match self.list.get(handle as usize) {
+            Some(place) => part_tag(place, told),
+            None => part_tag(&LinkPlace::none(), told),
         }
     }
 

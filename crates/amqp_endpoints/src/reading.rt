@@ -68,7 +68,8 @@ pub(crate) fn credit_flow(told: &Record) -> CreditFlow
 
 /// The tag of a Transfer, beside that of the delivery that came last. One of more than 32 bytes, which the standard does not allow (section 2.8.7), is another
 /// one each time.
-fn part_tag(place: &LinkPlace, told: &Record) -> PartTag
+#[inline(always)]
+pub(crate) fn part_tag(place: &LinkPlace, told: &Record) -> PartTag
     ensures { result ≡ part_tag place.now told.now }
 {
     if !is_set(told.flags, flag::TAGGED) {
@@ -81,13 +82,14 @@ fn part_tag(place: &LinkPlace, told: &Record) -> PartTag
     }
 }
 
-/// What a Transfer says of its part of a delivery.
-pub(crate) fn part_head(place: &LinkPlace, told: &Record) -> PartHead
-    ensures { result ≡ part_head place.now told.now }
+/// What a Transfer says of its part of a delivery, whose tag is this beside that of the delivery that came last.
+#[inline(always)]
+pub(crate) fn part_head(tag: PartTag, told: &Record) -> PartHead
+    ensures { result ≡ part_head tag told.now }
 {
     PartHead {
         number: if_set(told, flag::NUMBERED, told.first),
-        tag: part_tag(place, told),
+        tag,
         format: if_set(told, flag::FORMATTED, told.format),
         settled: Some(is_set(told.flags, flag::SETTLED)),
         more: is_set(told.flags, flag::MORE),

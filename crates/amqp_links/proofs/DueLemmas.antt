@@ -1,13 +1,11 @@
 -- Where no flow is due that renews a link's credit, none is prepared.
-use Rattle.std.proofs.Common.{◌≡◌, ℕ, Bool, true, false, Option, Some, None, refl, is_some, subst, sym}
-use Rattle.amqp_credit.specs.declared.receiver.Grant.{Grant}
+use Rattle.std.proofs.Common.{◌≡◌, ℕ, false, Option, Some, None, refl, is_some}
 use Rattle.amqp_credit.specs.Receiver.{ReceiverView, renewed, wanted}
 use Rattle.amqp_links.specs.declared.end.End.{End}
 use Rattle.amqp_links.specs.declared.end.End.TheVariants.{Sending, Receiving}
 use Rattle.amqp_links.specs.declared.life.Life.{Life}
 use Rattle.amqp_links.specs.declared.life.Life.TheVariants.{Attaching, Refused, Attached, Detaching, Detached}
 use Rattle.amqp_links.specs.declared.session.granting.FlowWish.TheVariants.{Renew}
-use Rattle.amqp_links.specs.declared.session.granting.PreparedFlow.{PreparedFlow}
 use Rattle.amqp_links.specs.PreparingFlow.{PreparesFlow, due_at}
 use Rattle.amqp_links.specs.Receiving.{ReceivingView, RenewsIfAttached, due_if_attached}
 

@@ -1,5 +1,5 @@
 -- Two halves of a call are the whole one.
-use Rattle.std.proofs.Common.{ℕ, ◌≡◌, Option, Some, None, Ok, refl, sym, ap, subst, ◌∙◌}
+use Rattle.std.proofs.Common.{ℕ, ◌≡◌, Option, Some, None, refl, sym, ap, subst}
 use Rattle.std.specs.Prelude.{option_map}
 use Rattle.std.proofs.lemmas.Option.{none-some}
 use Rattle.amqp_credit.specs.declared.receiver.Grant.{Grant}
@@ -12,7 +12,7 @@ use Rattle.amqp_links.specs.declared.session.granting.PreparedFlow.{PreparedFlow
 use Rattle.amqp_links.specs.Ends.{end_at}
 use Rattle.amqp_links.specs.Granting.{ReceiverSays, SenderSays}
 use Rattle.amqp_links.specs.Preparing.{HalvesSend}
-use Rattle.amqp_links.specs.PreparingFlow.{AnswersSender, FinishesFlow, HalvesSay, PreparesFlow, PreparesReceiver, PreparesSender, SaysAt, of_flow, of_grant}
+use Rattle.amqp_links.specs.PreparingFlow.{FinishesFlow, HalvesSay, PreparesFlow, SaysAt, of_flow, of_grant}
 use Rattle.amqp_links.specs.Sending.{SendingView}
 use Rattle.amqp_links.specs.Sending as sending
 use Rattle.amqp_links.specs.Receiving.{ReceivingView, GrantStep, DrainStep, RenewStep}

@@ -1,5 +1,5 @@
 -- What is known of both ends of a link that are joined, and of what is on the way between them.
-use Rattle.std.proofs.Common.{◌≡◌, ◌+◌, ◌^◌, ◌<◌, ◌≤◌, ◌&&◌, ◌||◌, ℕ, zero, suc, nat_eq, Bool, true, false, List, [], ◌∷◌, ◌++◌, Option, Some, None}
+use Rattle.std.proofs.Common.{◌≡◌, ◌^◌, ◌<◌, ◌≤◌, ◌&&◌, ◌||◌, ℕ, zero, suc, nat_eq, Bool, true, false, List, [], ◌∷◌, ◌++◌, Option, Some, None}
 use Rattle.std.proofs.Common.{Result, Ok, Err, if◌then◌else◌, refl, sym, ap, ◌∙◌, subst, arith, true≢false}
 use Rattle.std.proofs.lemmas.Bool.Decides.{nat_tests}
 use Rattle.std.proofs.lemmas.Grind.{common_steps}
@@ -28,7 +28,6 @@ use Rattle.amqp_links.specs.declared.receiving.TransferError.{TransferError}
 use Rattle.amqp_links.specs.declared.receiving.TransferError.TheVariants as transfer
 use Rattle.amqp_links.specs.declared.sending.SenderFlow.{SenderFlow}
 use Rattle.amqp_links.specs.declared.sending.SendError.{SendError}
-use Rattle.amqp_links.specs.declared.sending.SendError.TheVariants.{TooLarge}
 use Rattle.amqp_links.specs.Joined.{Joined, JoinedCall, JoinedStep, IsHead, Sent, Transfer, Flow, begun_by, counts, flow_by, grants, joined, transfers}
 use Rattle.amqp_links.specs.Joined.{FlowStep, TransferStep, CountStep}
 use Rattle.amqp_links.specs.Joined as call

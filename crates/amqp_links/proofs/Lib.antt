@@ -10,3 +10,4 @@ mod JoinedLemmas
 mod JoinedLawLemmas
 mod SessionLawLemmas
 mod UnsettledLawLemmas
+mod TakingLemmas

@@ -1,7 +1,7 @@
--- Part: other calls.
+-- Part: other calls; inner.
 -- The receiving end of a link, and what each call makes of it (AMQP 1.0 part 2, sections 2.6.3, 2.6.7 and 2.6.14).
 use Rattle.std.specs.Prelude.{ℕ, ◌≡◌, ◌||◌, ◌&&◌, nat_eq, if◌then◌else◌, Bool, true, false, List, Option, Some, None, Result, Ok, Err, codes, is_some}
-use Rattle.amqp_credit.specs.Assembly.{AssemblyView, new_assembly, PartStep, is_none}
+use Rattle.amqp_credit.specs.Assembly.{AssemblyView, new_assembly, PartStep, finished, is_none, prepared}
 use Rattle.amqp_credit.specs.Receiver.{ReceiverView, new_receiver, told_by, wanted, taken_off, or_zero, used_up}
 use Rattle.amqp_credit.specs.Receiver as receiver
 use Rattle.amqp_credit.specs.declared.part.Part.{Part}
@@ -141,6 +141,37 @@ TakesIfAttached life v head result w = (result ≡ Err transfer.NotAttached) × 
 
 abbrev pub TakesStep : ReceivingView → PartHead → Result Part TransferError → ReceivingView → Type 0
 TakesStep v head result w = TakesIfAttached v.life v head result w
+
+-- ---- a transfer in two halves
+
+abbrev pub told_by_parts : Result Part PartError → Result Part TransferError
+told_by_parts (Ok p) = Ok p
+told_by_parts (Err e) = Err (transfer.Fault (fault.Part e))
+
+abbrev pub told_unless : Bool → ReceivingView → PartHead → Result Part TransferError
+told_unless true v head = Err (transfer.Fault fault.OverCredit)
+told_unless false v head = told_by_parts (prepared v.parts head)
+
+abbrev pub told_if_attached : Life → ReceivingView → PartHead → Result Part TransferError
+told_if_attached Attached v head = told_unless (is_over v) v head
+told_if_attached life v head = Err transfer.NotAttached
+
+-- what is answered to a transfer, before anything has changed
+abbrev pub prepared_part : ReceivingView → PartHead → Result Part TransferError
+prepared_part v head = told_if_attached v.life v head
+
+-- a delivery takes one of the credit, if there is any
+abbrev pub begun : ReceiverView → ReceiverView
+begun c = if nat_eq c.credit 0 then c else taken_off 1 c
+
+-- the part that was prepared for this head counts
+abbrev pub with_taken : ReceivingView → PartHead → Part → ReceivingView
+with_taken v head p = record v { credit = if p.is_first then begun v.credit else v.credit; parts = finished v.parts head p }
+
+-- a transfer was refused: this side detaches for a fault
+abbrev pub refusing : TransferError → ReceivingView → ReceivingView
+refusing (transfer.Fault f) v = record v { life = Detaching }
+refusing transfer.NotAttached v = v
 
 -- the condition of the Detach that ends a link for a fault
 abbrev pub condition_of : LinkFault → List ℕ

@@ -4,8 +4,11 @@ ghost use Rattle.std.specs.Prelude.{◌≡◌, ◌≢◌, ◌≤◌, ◌<◌, �
 ghost use Rattle.amqp_memory.specs.Refusal.{SomeRefused};
 ghost use Rattle.amqp_links.specs.Ends.{end_at, Puts};
 ghost use Rattle.amqp_links.specs.PreparingFlow.{due_at};
+ghost use Rattle.amqp_links.specs.TakingParts.{prepared_at, refusing_at, with_part};
 
 use crate::end::End;
+use crate::receiving::TransferError;
+use amqp_credit::{Part, PartHead};
 use amqp_memory::more_in_vector;
 use std::alloc::{AllocError, Global};
 use std::marker::Model;
@@ -56,6 +59,40 @@ impl Ends {
         }
     }
 
+    /// What a part that comes on the link of this handle is. `None` where no receiving end has it. The end is looked at where it stands.
+    #[inline(always)]
+    pub(crate) fn prepare_part(
+        &self,
+        handle: u32,
+        head: PartHead,
+    ) -> Option<Result<Part, TransferError>>
+        ensures { result ≡ prepared_at (end_at self.now handle) head }
+    {
+        match self.places.get(handle as usize) {
+            Some(Some(End::Receiving(link))) => Some(link.prepare(head)),
+            _ => None,
+        }
+    }
+
+    /// The part that was prepared is told. The end is changed where it stands.
+    #[inline(always)]
+    pub(crate) fn finish_part(&mut self, handle: u32, head: PartHead, part: Part)
+        ensures { Puts self.old handle (with_part (end_at self.old handle) head part) self.new }
+    {
+        if (handle as usize) < self.places.len() {
+            finish_in(&mut self.places[handle as usize], head, part);
+        }
+    }
+
+    /// A transfer was refused on the link of this handle.
+    pub(crate) fn refuse_part(&mut self, handle: u32, error: TransferError)
+        ensures { Puts self.old handle (refusing_at error (end_at self.old handle)) self.new }
+    {
+        if (handle as usize) < self.places.len() {
+            refuse_in(&mut self.places[handle as usize], error);
+        }
+    }
+
     /// Puts an end, or none, in the place of one that is there.
     #[inline(always)]
     pub(crate) fn replace(&mut self, handle: u32, end: Option<End>)
@@ -93,6 +130,25 @@ impl Ends {
         self.make_room(handle)?;
         self.places[handle as usize] = Some(end);
         Ok(())
+    }
+}
+
+/// The part that was prepared is told, by the end that is there.
+#[inline(always)]
+fn finish_in(place: &mut Option<End>, head: PartHead, part: Part)
+    ensures { place.new ≡ with_part place.old head part }
+{
+    if let Some(End::Receiving(link)) = place {
+        link.finish(head, part);
+    }
+}
+
+/// A transfer was refused, by the end that is there.
+fn refuse_in(place: &mut Option<End>, error: TransferError)
+    ensures { place.new ≡ refusing_at error place.old }
+{
+    if let Some(End::Receiving(link)) = place {
+        link.refuse(error);
     }
 }
 

@@ -2,7 +2,7 @@
 
 ghost use Rattle.std.specs.Prelude.{◌≡◌};
 ghost use Rattle.amqp_links.specs.Receiving.{new_receiving, AttachStep, GrantStep, DrainStep, RenewStep, HeardStep, AnswerStep, is_renewal_due};
-ghost use Rattle.amqp_links.specs.Receiving.{TakesStep, CountsStep, DetachStep, EndsStep, condition_of};
+ghost use Rattle.amqp_links.specs.Receiving.{TakesStep, DetachStep, EndsStep, condition_of, prepared_part, refusing, with_taken};
 ghost use Rattle.amqp_credit.specs.Assembly.{number_in};
 
 use crate::life::{Life, LinkEnd, attached, detached, end_of};
@@ -176,36 +176,56 @@ impl ReceivingLink {
     ///
     /// # Errors
     /// [`TransferError::NotAttached`], and nothing changes; or [`TransferError::Fault`], and this side detaches: no transfer is told any more.
+    #[tactic(auto, using(crate::proofs::TakingLemmas::takes, crate::proofs::TakingLemmas::refuses))]
     pub fn on_transfer(&mut self, head: PartHead) -> Result<Part, TransferError>
         ensures { TakesStep self.old head result self.new }
     {
-        if self.life != Life::Attached {
-            return Err(TransferError::NotAttached);
-        }
-        match self.count(head) {
-            Ok(part) => Ok(part),
-            Err(fault) => {
-                self.life = Life::Detaching;
-                Err(TransferError::Fault(fault))
+        match self.prepare(head) {
+            Ok(part) => {
+                self.finish(head, part);
+                Ok(part)
+            }
+            Err(error) => {
+                self.refuse(error);
+                Err(error)
             }
         }
     }
 
-    /// Counts a part that came: first by the credit, where it begins a delivery, and then by the parts before it.
-    fn count(&mut self, head: PartHead) -> Result<Part, LinkFault>
-        ensures { CountsStep self.old head result self.new }
+    /// What [`ReceivingLink::on_transfer`] answers, before anything has changed: first by the credit, where a delivery begins, and then by the parts before it.
+    #[inline(always)]
+    pub(crate) fn prepare(&self, head: PartHead) -> Result<Part, TransferError>
+        ensures { result ≡ prepared_part self.now head }
     {
-        if self.parts.under_way().is_none() && self.credit.credit() == 0 {
-            return Err(LinkFault::OverCredit);
+        if self.life != Life::Attached {
+            return Err(TransferError::NotAttached);
         }
-        match self.parts.on_part(head) {
-            Ok(part) => {
-                if part.is_first {
-                    drop(self.credit.on_delivery());
-                }
-                Ok(part)
-            }
-            Err(error) => Err(LinkFault::Part(error)),
+        if self.parts.under_way().is_none() && self.credit.credit() == 0 {
+            return Err(TransferError::Fault(LinkFault::OverCredit));
+        }
+        match self.parts.prepare(head) {
+            Ok(part) => Ok(part),
+            Err(error) => Err(TransferError::Fault(LinkFault::Part(error))),
+        }
+    }
+
+    /// The part that was prepared for this head is told: it counts.
+    #[inline(always)]
+    pub(crate) fn finish(&mut self, head: PartHead, part: Part)
+        ensures { self.new ≡ with_taken self.old head part }
+    {
+        self.parts.finish(head, part);
+        if part.is_first {
+            drop(self.credit.on_delivery());
+        }
+    }
+
+    /// A transfer was refused for this reason: this side detaches for a fault.
+    pub(crate) fn refuse(&mut self, error: TransferError)
+        ensures { self.new ≡ refusing error self.old }
+    {
+        if matches!(error, TransferError::Fault(_)) {
+            self.life = Life::Detaching;
         }
     }
 

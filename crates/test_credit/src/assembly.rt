@@ -2,7 +2,7 @@
 
 use crate::parts::{first, goes_on, is_part, is_refused};
 use crate::same::same;
-use amqp_credit::{Assembly, PartEnd, PartError, PartHead, PartTag};
+use amqp_credit::{Assembly, Part, PartEnd, PartError, PartHead, PartTag};
 use std::test::Fail;
 
 #[test]
@@ -53,6 +53,45 @@ fn a_delivery_in_one_part_and_one_in_three(rt: HostRuntime) -> Result<(), Fail> 
     );
     same(&rt, parts.under_way(), None);
     is_refused(&rt, &mut parts, goes_on(false, 3), PartError::NoneUnderWay);
+    Ok(())
+}
+
+#[test]
+fn a_part_in_two_halves(rt: HostRuntime) -> Result<(), Fail> {
+    let mut parts = Assembly::new(Some(100));
+    let head = first(7, true, 60);
+    let part = Part {
+        number: 7,
+        is_first: true,
+        end: PartEnd::More,
+        settled: false,
+        size: 60,
+    };
+    same(&rt, parts.prepare(head), Ok(part));
+    same(&rt, parts.under_way(), None);
+    parts.finish(head, part);
+    same(&rt, parts.under_way(), Some(7));
+    let other = PartHead {
+        format: Some(1),
+        ..goes_on(false, 1)
+    };
+    same(&rt, parts.prepare(other), Err(PartError::OtherFormat));
+    same(
+        &rt,
+        parts.prepare(goes_on(false, 41)),
+        Err(PartError::TooLarge),
+    );
+    is_part(
+        &rt,
+        &mut parts,
+        goes_on(false, 40),
+        7,
+        false,
+        PartEnd::Last,
+        false,
+        100,
+    );
+    same(&rt, parts.under_way(), None);
     Ok(())
 }
 

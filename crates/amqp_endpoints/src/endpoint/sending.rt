@@ -6,7 +6,6 @@ ghost use Rattle.amqp_endpoints.specs.Sending.{end_of, is_first_of, lets_go, num
 ghost use Rattle.amqp_endpoints.specs.Places.{PutsPlace};
 
 use super::SessionEndpoint;
-use crate::place::LinkPlace;
 use amqp_driver::flag::{self, is_set};
 use amqp_driver::{Sent, Status, Stream, TransferHead};
 use amqp_links::{End, PartEnd, PreparedPart, SendPartError, SentPart};
@@ -245,15 +244,7 @@ impl SessionEndpoint {
         ensures place { PutsPlace self.old.places link (sent_place self.old link number is_first) self.new.places }
         ensures rest { self.new ≡ record self.old { places = self.new.places; sent = one_more self.old.sent } }
     {
-        let place = self.places.get(link);
         self.sent = self.sent.saturating_add(1);
-        self.places.put(
-            link,
-            LinkPlace {
-                begun: if is_first { number } else { place.begun },
-                sent: self.sent,
-                ..place
-            },
-        );
+        self.places.note_sent(link, number, is_first, self.sent);
     }
 }

@@ -3,7 +3,7 @@
 ghost use Rattle.std.specs.Prelude.{◌≡◌};
 ghost use Rattle.amqp_endpoints.specs.Places.{PutsPlace, place_at};
 ghost use Rattle.amqp_endpoints.specs.Reading.{first_attach};
-ghost use Rattle.amqp_endpoints.specs.Telling.{OnRecord, TellsAttach, TellsDetach, TellsFlow, TellsLink, TellsPart, is_unanswered, keeps_tag, link_by, owing};
+ghost use Rattle.amqp_endpoints.specs.Telling.{OnRecord, TellsAny, TellsAttach, TellsDetach, TellsFlow, TellsLink, TellsOther, TellsPart, is_unanswered, keeps_tag, link_by, owing};
 
 use super::SessionEndpoint;
 use crate::event::{LinkEvent, RecordError};
@@ -45,6 +45,7 @@ impl SessionEndpoint {
     ///     _ => {}
     /// }
     /// ```
+    #[inline(always)]
     pub fn on_record(&mut self, told: &Record, given: u64) -> Result<LinkEvent, RecordError>
         ensures { OnRecord self.old told.now given result self.new }
     {
@@ -54,6 +55,14 @@ impl SessionEndpoint {
         if told.kind == kind::DISPOSITION {
             return Ok(settled_range(told));
         }
+        self.on_any(told, given)
+    }
+
+    /// A record that is no Disposition is told to its link, if it is of one.
+    #[inline(never)]
+    fn on_any(&mut self, told: &Record, given: u64) -> Result<LinkEvent, RecordError>
+        ensures { TellsAny (link_by self.old told.now) self.old told.now given result self.new }
+    {
         match self.link_by(told) {
             Some(handle) => self.on_link(told, handle, given),
             None => Ok(LinkEvent::Nothing),
@@ -115,7 +124,17 @@ impl SessionEndpoint {
     {
         if told.kind == kind::TRANSFER {
             self.on_transfer(told, handle, given)
-        } else if told.kind == kind::FLOW {
+        } else {
+            self.on_other(told, handle)
+        }
+    }
+
+    /// A record that is no Transfer is told to the link that has this handle. It stands apart, since most are Transfers.
+    #[inline(never)]
+    fn on_other(&mut self, told: &Record, handle: u32) -> Result<LinkEvent, RecordError>
+        ensures { TellsOther self.old told.now handle result self.new }
+    {
+        if told.kind == kind::FLOW {
             Ok(self.on_flow(told, handle))
         } else if told.kind == kind::ATTACHED {
             self.on_attach(told, handle, peer_attach(told))
@@ -152,20 +171,12 @@ impl SessionEndpoint {
     ) -> Result<LinkEvent, RecordError>
         ensures { TellsPart self.old told.now handle given result self.new }
     {
-        let place = self.places.get(handle);
-        let head = part_head(&place, told);
+        let head = part_head(self.places.part_tag(handle, told), told);
         let number = head.number;
         match self.links.on_transfer(handle, head, given) {
             Ok(part) => {
                 if keeps_tag(part.part) {
-                    self.places.put(
-                        handle,
-                        LinkPlace {
-                            tag_size: told.tag_size,
-                            tag: told.tag,
-                            ..place
-                        },
-                    );
+                    self.places.keep_tag(handle, told);
                 }
                 Ok(LinkEvent::Part { handle, part })
             }

@@ -1,13 +1,11 @@
 //! Parts of deliveries that have come.
 
-ghost use Rattle.std.specs.Prelude.{◌≡◌, ◌≢◌, None};
 ghost use Rattle.amqp_links.specs.Ends.{end_at};
-ghost use Rattle.amqp_links.specs.TakingParts.{TakesAt, TakesOn, NotesOn};
+ghost use Rattle.amqp_links.specs.TakingParts.{TakesAt, NotesOn, with_part};
 
 use super::SessionLinks;
 use super::noting::note;
-use crate::end::End;
-use crate::receiving::{ReceivingLink, TransferError};
+use crate::receiving::TransferError;
 use amqp_credit::{Part, PartHead};
 use amqp_unsettled::{Entry, InsertError};
 
@@ -42,6 +40,7 @@ impl SessionLinks {
     ///
     /// # Errors
     /// Each [`TakePartError`] says when, in this order.
+    #[tactic(auto, using(crate::proofs::TakingLemmas::not_there, crate::proofs::TakingLemmas::noted, crate::proofs::TakingLemmas::refused))]
     pub fn on_transfer(
         &mut self,
         handle: u32,
@@ -50,46 +49,26 @@ impl SessionLinks {
     ) -> Result<ReceivedPart, TakePartError>
         ensures { TakesAt (end_at self.old.ends handle) self.old handle head given result self.new }
     {
-        let Some(end) = self.end(handle) else {
-            return Err(TakePartError::NoReceiver);
-        };
-        match end {
-            End::Receiving(link) => self.take_on(link, handle, head, given),
-            End::Sending(_) => Err(TakePartError::NoReceiver),
-        }
-    }
-
-    /// The same of the end that has the handle.
-    fn take_on(
-        &mut self,
-        link: ReceivingLink,
-        handle: u32,
-        head: PartHead,
-        given: u64,
-    ) -> Result<ReceivedPart, TakePartError>
-        requires { end_at self.old.ends handle ≢ None }
-        ensures { TakesOn link self.old handle head given result self.new }
-    {
-        let mut link = link;
-        match link.on_transfer(head) {
-            Ok(part) => self.note_on(link, handle, part, given),
-            Err(error) => {
-                self.put(handle, End::Receiving(link));
+        match self.ends.prepare_part(handle, head) {
+            None => Err(TakePartError::NoReceiver),
+            Some(Ok(part)) => self.note_on(handle, head, part, given),
+            Some(Err(error)) => {
+                self.ends.refuse_part(handle, error);
                 Err(TakePartError::Link(error))
             }
         }
     }
 
-    /// The end has taken this part.
+    /// The end that has the handle has this part, once it is noted.
+    #[inline(always)]
     fn note_on(
         &mut self,
-        link: ReceivingLink,
         handle: u32,
+        head: PartHead,
         part: Part,
         given: u64,
     ) -> Result<ReceivedPart, TakePartError>
-        requires { end_at self.old.ends handle ≢ None }
-        ensures { NotesOn link self.old handle part given result self.new }
+        ensures { NotesOn (with_part (end_at self.old.ends handle) head part) self.old handle part given result self.new }
     {
         let entry = Entry {
             number: part.number,
@@ -98,7 +77,7 @@ impl SessionLinks {
         };
         match note(&mut self.received, part.is_first, part.settled, entry) {
             Ok(settled) => {
-                self.put(handle, End::Receiving(link));
+                self.ends.finish_part(handle, head, part);
                 Ok(ReceivedPart { part, settled })
             }
             Err(InsertError::NotNext) => Err(TakePartError::NotNext),
