@@ -97,15 +97,16 @@ impl Assembly {
     pub fn finish(&mut self, head: PartHead, part: Part)
         ensures { self.new ≡ finished self.old head part }
     {
-        self.current = match part.end {
-            PartEnd::More => Some(Delivery {
+        if matches!(part.end, PartEnd::More) {
+            self.current = Some(Delivery {
                 number: part.number,
                 format: format_of(self.current, head),
                 settled: part.settled,
                 size: part.size,
-            }),
-            PartEnd::Last | PartEnd::Aborted => None,
-        };
+            });
+        } else {
+            self.current = None;
+        }
     }
 
     /// The number of the delivery that is under way, if there is one.
