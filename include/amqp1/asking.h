@@ -91,8 +91,8 @@ AMQP1_FUNCTION uint8_t *amqp1_u32_at(uint8_t *at, uint32_t number)
     return at + 4;
 }
 
-/* A number that one byte is to say: of one that it cannot say 255, which no operation takes. For use within this
-   header. */
+/* A number that one byte is to say: of one that it cannot say 255, which no operation takes. For use within these
+   headers. */
 AMQP1_FUNCTION uint8_t amqp1_u8_of(int number)
 {
     return number < 0 || number > 255 ? 255 : (uint8_t)number;
