@@ -11,3 +11,5 @@ mod JoinedLawLemmas
 mod SessionLawLemmas
 mod UnsettledLawLemmas
 mod TakingLemmas
+mod SendingCreditLemmas
+mod ReceivingCreditLemmas

@@ -46,7 +46,7 @@ abbrev is_nothing : {A : Type 0} → Option A → Type 0
 is_nothing None = Unit {0}
 is_nothing (Some a) = ⊥
 
-none≢some : {A : Type 0} {a : A} → None ≡ Some a → ⊥
+pub none≢some : {A : Type 0} {a : A} → None ≡ Some a → ⊥
 none≢some e = subst is_nothing e tt
 
 abbrev or_else : {A : Type 0} → A → Option A → A

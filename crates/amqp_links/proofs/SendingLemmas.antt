@@ -29,7 +29,7 @@ abbrev is_done : {A B : Type 0} → Result A B → Type 0
 is_done (Ok a) = Unit {0}
 is_done (Err b) = ⊥
 
-ok≢err : {A B : Type 0} {a : A} {b : B} → Ok a ≡ Err b → ⊥
+pub ok≢err : {A B : Type 0} {a : A} {b : B} → Ok a ≡ Err b → ⊥
 ok≢err e = subst is_done e tt
 
 -- what a call makes of the credit, by calls of it, and where the link stands then
@@ -62,7 +62,7 @@ idle v m c e s l b = record {
 
 -- ---- an Attach
 
-limit_credit : (life : Life) (limit : Option ℕ) (v : SendingView) → (with_limit life limit v).credit ≡ v.credit
+pub limit_credit : (life : Life) (limit : Option ℕ) (v : SendingView) → (with_limit life limit v).credit ≡ v.credit
 limit_credit Attaching limit v = refl
 limit_credit Refused limit v = refl
 limit_credit Attached limit v = refl
@@ -164,7 +164,7 @@ refused_sized : (b : Bool) (v m : SendingView) (whole : ℕ) (end : PartEnd) (e 
 refused_sized true v m whole end e h = h.1
 refused_sized false v m whole end e h = refused_within v.under_way v m whole end e h
 
-refused : (life : Life) (v m : SendingView) (size : ℕ) (end : PartEnd) (e : SendError) → AttachedSend life v size end (Err e) m → m ≡ v
+pub refused : (life : Life) (v m : SendingView) (size : ℕ) (end : PartEnd) (e : SendError) → AttachedSend life v size end (Err e) m → m ≡ v
 refused Attached v m size end e h =
     refused_sized (is_too_large v.limit (size_with v.under_way size end) end) v m (size_with v.under_way size end) end e h
 refused Attaching v m size end e h = h.1

@@ -1,8 +1,10 @@
 pub mod Life
 pub mod Sending
 pub mod Receiving
+pub mod SendingCredit
 pub mod SendingHistory
 pub mod ReceivingHistory
+pub mod ReceivingCredit
 pub mod Ends
 pub mod Joined
 pub mod Session

@@ -2,8 +2,10 @@
 
 ghost use Rattle.amqp_links.specs.SendingHistory as sending;
 ghost use Rattle.amqp_links.specs.SendingHistory.{OfSendings};
+ghost use Rattle.amqp_links.specs.SendingCredit.{BegunBeforeLimit, CountsBy, NoneBegunBefore};
 ghost use Rattle.amqp_links.specs.ReceivingHistory as receiving;
 ghost use Rattle.amqp_links.specs.ReceivingHistory.{OfReceivings};
+ghost use Rattle.amqp_links.specs.ReceivingCredit.{NoneToldBefore, ToldWithinGrant};
 ghost use Rattle.amqp_links.specs.Joined.{OfJoined, NoneRefused, ComeInOrder, CreditIsKept, EndsAgree};
 ghost use Rattle.amqp_links.specs.SessionHistory.{OfLinks, EachIsAlone};
 ghost use Rattle.amqp_links.specs.UnsettledHistory.{AreTables};
@@ -19,6 +21,15 @@ pub fn law_of_sending()
     ensures credit { OfSendings (λ initial H v. sending.IsCreditOf initial H v) }
 {}
 
+/// Of each delivery that a sending end begins: the count of the link is past that which the receiver's last flow had seen by less than the credit of that
+/// flow. So it stands before the limit, which is that flow's delivery-count and link-credit; and none is begun before a flow gives credit. The count is the
+/// initial one, and one for each delivery that was begun, and else what this side's last flow says (AMQP 1.0 part 2, section 2.6.7).
+pub fn law_of_limits()
+    ensures limit { OfSendings (λ initial H v. BegunBeforeLimit initial H) }
+    ensures none { OfSendings (λ initial H v. NoneBegunBefore H) }
+    ensures count { OfSendings (λ initial H v. CountsBy initial H v) }
+{}
+
 /// A receiving end stands where its Attaches and Detaches say, and what its sender may not do detaches it. It tells no transfer but while it is
 /// attached. The parts that it tells are those of an `Assembly`, and its credit is that of a `ReceiverCredit` that granted the same and took the same
 /// deliveries: so `law_of_parts`, `law_of_receivers` and `law_of_renewals` of `amqp_credit` hold of it. No more deliveries are told than were granted,
@@ -28,6 +39,13 @@ pub fn law_of_receiving()
     ensures told { OfReceivings (λ renewal limit H v. receiving.ToldWhereAttached H) }
     ensures parts { OfReceivings (λ renewal limit H v. receiving.IsAssemblyOf limit H v) }
     ensures credit { OfReceivings (λ renewal limit H v. receiving.IsCreditOf renewal H v) }
+{}
+
+/// Of the deliveries that a receiving end tells: since a grant, whether asked for or by the rule of renewal, no more are told than it granted, until the next
+/// one; and none is told before the first (AMQP 1.0 part 2, section 2.6.7).
+pub fn law_of_grants()
+    ensures within { OfReceivings (λ renewal limit H v. ToldWithinGrant H) }
+    ensures none { OfReceivings (λ renewal limit H v. NoneToldBefore H) }
 {}
 
 /// Of both ends of a link that both sides have attached, where transfers and flows come in order: each transfer that is sent comes once, in the order in which they
