@@ -1,9 +1,10 @@
 -- No delivery is begun past the limit of the receiver's last flow.
+use Rattle.std.proofs.Common.{◌&&◌, not, nat_eq}
 use Rattle.std.proofs.Common.{◌≡◌, ◌+◌, ◌-◌, ◌<◌, ◌≤◌, ◌||◌, ℕ, Bool, true, false, List, [], ◌∷◌, ◌++◌, Option, Some, None}
 use Rattle.std.proofs.Common.{Ok, Err, refl, sym, ap, ap₂, ◌∙◌, subst, arith, true≢false, if◌then◌else◌}
 use Rattle.amqp_credit.specs.Chain.{Chain}
 use Rattle.amqp_credit.specs.Serial.{advanced, past}
-use Rattle.amqp_credit.specs.Sender.{SenderView, flowed, left_of, new_sender, seen_or}
+use Rattle.amqp_credit.specs.Sender.{SenderView, flowed, is_drain_wanted, left_of, new_sender, seen_or, taken_from}
 use Rattle.amqp_credit.specs.SenderHistory.{SenderCall, SenderStep}
 use Rattle.amqp_credit.specs.SenderHistory as credit
 use Rattle.amqp_credit.specs.declared.part.PartEnd.{PartEnd}
@@ -13,11 +14,11 @@ use Rattle.amqp_links.specs.declared.life.Life.{Life}
 use Rattle.amqp_links.specs.declared.life.Life.TheVariants.{Attaching, Refused, Attached, Detaching, Detached}
 use Rattle.amqp_links.specs.declared.sending.CreditFlow.{CreditFlow}
 use Rattle.amqp_links.specs.declared.sending.SenderFlow.{SenderFlow}
-use Rattle.amqp_links.specs.Sending.{SendingView, new_sending, is_drained, flowing}
+use Rattle.amqp_links.specs.Sending.{SendingView, new_sending, drained, flowing, is_drained, is_none, told_of}
 use Rattle.amqp_links.specs.Sending.{AnsweredIf, AttachedAnswer, AttachedSend, BegunBy, SizedStep, WithinStep, is_too_large, size_with}
-use Rattle.amqp_links.specs.SendingHistory.{SendingCall, SendingStep, OfSendings, busy_by, counted_by, counted_in}
+use Rattle.amqp_links.specs.SendingHistory.{SendingCall, SendingStep, OfSendings, busy_after, busy_by, counted_by, counted_in, life_after}
 use Rattle.amqp_links.specs.SendingHistory.{Attaches, Flows, Sends, Answers, Detaches, Ends, AsksLife, AsksCredit, AsksCount, AsksUnderWay}
-use Rattle.amqp_links.specs.SendingCredit.{BegunBeforeLimit, CountsBy, NoneBegunBefore, count_after, count_by, has_given}
+use Rattle.amqp_links.specs.SendingCredit.{BegunBeforeLimit, CreditIs, FlowsSay, NoneBegunBefore, credit_after, credit_by, flowed_if, has_given}
 use Rattle.amqp_links.proofs.SendingLemmas.{MadeBy, is_busy, limit_credit, made_by, ok≢err, refused}
 
 -- ---- credit that is left, and what has gone out past what the receiver had seen
@@ -121,49 +122,41 @@ sent_credit Refused v m size end idle h = absurd (ok≢err h.0)
 sent_credit Detaching v m size end idle h = absurd (ok≢err h.0)
 sent_credit Detached v m size end idle h = absurd (ok≢err h.0)
 
--- ---- the count
+-- ---- the credit, by the history
 
-flow_count : (o : Option ℕ) (seen : Option ℕ) (drain : Bool) (v : SenderView) → (flowed seen o drain v).count ≡ v.count
-flow_count None seen drain v = refl
-flow_count (Some granted) seen drain v = refl
+abbrev Credits : SendingView → SendingCall → SendingView → Type 0
+Credits v c m = m.credit ≡ credit_after c v.life (is_busy v.under_way) v.credit
 
-flowing_count : (life : Life) (f : CreditFlow) (v : SendingView) → (flowing life f v).credit.count ≡ v.credit.count
-flowing_count Attached f v = flow_count f.link_credit f.delivery_count f.drain v.credit
-flowing_count Attaching f v = refl
-flowing_count Refused f v = refl
-flowing_count Detaching f v = refl
-flowing_count Detached f v = refl
+flowing_credit : (life : Life) (f : CreditFlow) (v : SendingView) → (flowing life f v).credit ≡ flowed_if life f v.credit
+flowing_credit Attached f v = refl
+flowing_credit Attaching f v = refl
+flowing_credit Refused f v = refl
+flowing_credit Detaching f v = refl
+flowing_credit Detached f v = refl
 
-abbrev Counts : SendingView → SendingCall → SendingView → Type 0
-Counts v c m = m.credit.count ≡ count_after c (is_busy v.under_way) v.credit.count
+begun_takes : (end : PartEnd) (v m : SendingView) (whole : ℕ) → BegunBy v whole end (Ok tt) m → m.credit ≡ taken_from 1 v.credit
+begun_takes More v m whole h = ap (λ (x : SendingView). x.credit) h.2 ∙ ap (λ (x : SendingView). x.credit) h.1.1
+begun_takes Last v m whole h = ap (λ (x : SendingView). x.credit) h.2 ∙ ap (λ (x : SendingView). x.credit) h.1.1
+begun_takes Aborted v m whole h = absurd (ok≢err h.1.0)
 
-begun_count : (end : PartEnd) (v m : SendingView) (whole : ℕ) → BegunBy v whole end (Ok tt) m → m.credit.count ≡ advanced v.credit.count 1
-begun_count More v m whole h = ap (λ (x : SendingView). x.credit.count) h.2 ∙ ap (λ (x : SendingView). x.credit.count) h.1.1
-begun_count Last v m whole h = ap (λ (x : SendingView). x.credit.count) h.2 ∙ ap (λ (x : SendingView). x.credit.count) h.1.1
-begun_count Aborted v m whole h = absurd (ok≢err h.1.0)
+within_takes : (u : Option ℕ) (v m : SendingView) (size whole : ℕ) (end : PartEnd) → v.under_way ≡ u → WithinStep u v whole end (Ok tt) m →
+    Credits v (Sends size end (Ok tt)) m
+within_takes None v m size whole end is h =
+    begun_takes end v m whole h ∙ ap (λ o. if is_busy o then v.credit else taken_from 1 v.credit) (sym is)
+within_takes (Some n) v m size whole end is h =
+    ap (λ (x : SendingView). x.credit) h ∙ ap (λ o. if is_busy o then v.credit else taken_from 1 v.credit) (sym is)
 
-within_count : (u : Option ℕ) (v m : SendingView) (size whole : ℕ) (end : PartEnd) → v.under_way ≡ u → WithinStep u v whole end (Ok tt) m →
-    Counts v (Sends size end (Ok tt)) m
-within_count None v m size whole end is h =
-    begun_count end v m whole h ∙ ap (λ o. if is_busy o then v.credit.count else advanced v.credit.count 1) (sym is)
-within_count (Some n) v m size whole end is h =
-    ap (λ (x : SendingView). x.credit.count) h ∙ ap (λ o. if is_busy o then v.credit.count else advanced v.credit.count 1) (sym is)
+sized_takes : (b : Bool) (v m : SendingView) (size whole : ℕ) (end : PartEnd) → SizedStep b v whole end (Ok tt) m → Credits v (Sends size end (Ok tt)) m
+sized_takes true v m size whole end h = absurd (ok≢err h.0)
+sized_takes false v m size whole end h = within_takes v.under_way v m size whole end refl h
 
-sized_count : (b : Bool) (v m : SendingView) (size whole : ℕ) (end : PartEnd) → SizedStep b v whole end (Ok tt) m → Counts v (Sends size end (Ok tt)) m
-sized_count true v m size whole end h = absurd (ok≢err h.0)
-sized_count false v m size whole end h = within_count v.under_way v m size whole end refl h
-
-sent_count : (life : Life) (v m : SendingView) (size : ℕ) (end : PartEnd) → AttachedSend life v size end (Ok tt) m → Counts v (Sends size end (Ok tt)) m
-sent_count Attached v m size end h =
-    sized_count (is_too_large v.limit (size_with v.under_way size end) end) v m size (size_with v.under_way size end) end h
-sent_count Attaching v m size end h = absurd (ok≢err h.0)
-sent_count Refused v m size end h = absurd (ok≢err h.0)
-sent_count Detaching v m size end h = absurd (ok≢err h.0)
-sent_count Detached v m size end h = absurd (ok≢err h.0)
-
-abbrev count_or : ℕ → Option SenderFlow → ℕ
-count_or n None = n
-count_or n (Some told) = told.delivery_count
+sent_takes : (life : Life) (v m : SendingView) (size : ℕ) (end : PartEnd) → AttachedSend life v size end (Ok tt) m → Credits v (Sends size end (Ok tt)) m
+sent_takes Attached v m size end h =
+    sized_takes (is_too_large v.limit (size_with v.under_way size end) end) v m size (size_with v.under_way size end) end h
+sent_takes Attaching v m size end h = absurd (ok≢err h.0)
+sent_takes Refused v m size end h = absurd (ok≢err h.0)
+sent_takes Detaching v m size end h = absurd (ok≢err h.0)
+sent_takes Detached v m size end h = absurd (ok≢err h.0)
 
 abbrev is_nothing : {A : Type 0} → Option A → Type 0
 is_nothing None = Unit {0}
@@ -172,47 +165,86 @@ is_nothing (Some a) = ⊥
 none≢some : {A : Type 0} {a : A} → None ≡ Some a → ⊥
 none≢some e = subst is_nothing e tt
 
-answered_count : (b : Bool) (v m : SendingView) (available : ℕ) (answer : Option SenderFlow) → AnsweredIf b available v answer m →
-    Counts v (Answers available answer) m
-answered_count true v m available (Some told) h = sym (ap (count_or 0) h.1)
-answered_count true v m available None h = absurd (none≢some h.1)
-answered_count false v m available (Some told) h = absurd (none≢some (sym h.0))
-answered_count false v m available None h = ap (λ (x : SendingView). x.credit.count) h.1
+idle_is : (u : Option ℕ) → is_none u ≡ not (is_busy u)
+idle_is None = refl
+idle_is (Some n) = refl
 
-idle_count : (v m : SendingView) (available : ℕ) (answer : Option SenderFlow) → answer ≡ None → m ≡ v → Counts v (Answers available answer) m
-idle_count v m available None is e = ap (λ (x : SendingView). x.credit.count) e
-idle_count v m available (Some told) is e = absurd (none≢some (sym is))
+drained_as : (v : SendingView) (available : ℕ) →
+    is_drained available v ≡ ((nat_eq available 0 && not (is_busy v.under_way)) && is_drain_wanted v.credit)
+drained_as v available = ap (λ b. (nat_eq available 0 && b) && is_drain_wanted v.credit) (idle_is v.under_way)
 
-answer_count : (life : Life) (v m : SendingView) (available : ℕ) (answer : Option SenderFlow) → AttachedAnswer life available v answer m →
-    Counts v (Answers available answer) m
-answer_count Attached v m available answer h = answered_count (is_drained available v || v.echo) v m available answer h
-answer_count Attaching v m available answer h = idle_count v m available answer h.0 h.1
-answer_count Refused v m available answer h = idle_count v m available answer h.0 h.1
-answer_count Detaching v m available answer h = idle_count v m available answer h.0 h.1
-answer_count Detached v m available answer h = idle_count v m available answer h.0 h.1
+answered_takes : (b : Bool) (v m : SendingView) (available : ℕ) (answer : Option SenderFlow) → AnsweredIf b available v answer m →
+    Credits v (Answers available answer) m
+answered_takes true v m available (Some told) h =
+    ap (λ (x : SendingView). x.credit) h.0 ∙ ap (λ b. drained b v.credit) (drained_as v available)
+answered_takes true v m available None h = absurd (none≢some h.1)
+answered_takes false v m available (Some told) h = absurd (none≢some (sym h.0))
+answered_takes false v m available None h = ap (λ (x : SendingView). x.credit) h.1
 
-count_step : (v m : SendingView) (c : SendingCall) → SendingStep v c m → Counts v c m
-count_step v m (Attaches accepts limit) h =
-    ap (λ (x : SendingView). x.credit.count) h ∙ ap (λ (x : SenderView). x.count) (limit_credit v.life limit v)
-count_step v m (Flows f) h = ap (λ (x : SendingView). x.credit.count) h ∙ flowing_count v.life f v
-count_step v m (Sends size end (Ok done)) h = sent_count v.life v m size end h
-count_step v m (Sends size end (Err e)) h = ap (λ (x : SendingView). x.credit.count) (refused v.life v m size end e h)
-count_step v m (Answers available answer) h = answer_count v.life v m available answer h
-count_step v m Detaches h = ap (λ (x : SendingView). x.credit.count) h
-count_step v m (Ends told) h = ap (λ (x : SendingView). x.credit.count) h.1
-count_step v m (AsksLife answer) h = ap (λ (x : SendingView). x.credit.count) h.1
-count_step v m (AsksCredit n) h = ap (λ (x : SendingView). x.credit.count) h.1
-count_step v m (AsksCount n) h = ap (λ (x : SendingView). x.credit.count) h.1
-count_step v m (AsksUnderWay answer) h = ap (λ (x : SendingView). x.credit.count) h.1
+idle_takes : (v m : SendingView) (available : ℕ) (answer : Option SenderFlow) → answer ≡ None → m ≡ v → Credits v (Answers available answer) m
+idle_takes v m available None is e = ap (λ (x : SendingView). x.credit) e
+idle_takes v m available (Some told) is e = absurd (none≢some (sym is))
 
-count_chain : (v w : SendingView) (H : List SendingCall) → Chain SendingStep v H w → w.credit.count ≡ count_by (is_busy v.under_way) v.credit.count H
-count_chain v w [] h = ap (λ (x : SendingView). x.credit.count) h
-count_chain v w (c ∷ cs) h =
+answer_takes : (life : Life) (v m : SendingView) (available : ℕ) (answer : Option SenderFlow) → AttachedAnswer life available v answer m →
+    Credits v (Answers available answer) m
+answer_takes Attached v m available answer h = answered_takes (is_drained available v || v.echo) v m available answer h
+answer_takes Attaching v m available answer h = idle_takes v m available answer h.0 h.1
+answer_takes Refused v m available answer h = idle_takes v m available answer h.0 h.1
+answer_takes Detaching v m available answer h = idle_takes v m available answer h.0 h.1
+answer_takes Detached v m available answer h = idle_takes v m available answer h.0 h.1
+
+credit_step : (v m : SendingView) (c : SendingCall) → SendingStep v c m → Credits v c m
+credit_step v m (Attaches accepts limit) h = ap (λ (x : SendingView). x.credit) h ∙ limit_credit v.life limit v
+credit_step v m (Flows f) h = ap (λ (x : SendingView). x.credit) h ∙ flowing_credit v.life f v
+credit_step v m (Sends size end (Ok done)) h = sent_takes v.life v m size end h
+credit_step v m (Sends size end (Err e)) h = ap (λ (x : SendingView). x.credit) (refused v.life v m size end e h)
+credit_step v m (Answers available answer) h = answer_takes v.life v m available answer h
+credit_step v m Detaches h = ap (λ (x : SendingView). x.credit) h
+credit_step v m (Ends told) h = ap (λ (x : SendingView). x.credit) h.1
+credit_step v m (AsksLife answer) h = ap (λ (x : SendingView). x.credit) h.1
+credit_step v m (AsksCredit n) h = ap (λ (x : SendingView). x.credit) h.1
+credit_step v m (AsksCount n) h = ap (λ (x : SendingView). x.credit) h.1
+credit_step v m (AsksUnderWay answer) h = ap (λ (x : SendingView). x.credit) h.1
+
+credit_chain : (v w : SendingView) (H : List SendingCall) → Chain SendingStep v H w → w.credit ≡ credit_by v.life (is_busy v.under_way) v.credit H
+credit_chain v w [] h = ap (λ (x : SendingView). x.credit) h
+credit_chain v w (c ∷ cs) h =
     let one = made_by v h.0 (c ∷ []) (h.0, h.1, refl) in
-    count_chain h.0 w cs h.2 ∙ ap₂ (λ b n. count_by b n cs) one.busy (count_step v h.0 c h.1)
+    credit_chain h.0 w cs h.2
+    ∙ ap₂ (λ l b. credit_by l b h.0.credit cs) one.life one.busy
+    ∙ ap (λ k. credit_by (life_after c v.life) (busy_after c (is_busy v.under_way)) k cs) (credit_step v h.0 c h.1)
 
-pub counts_by : OfSendings (λ initial H v. CountsBy initial H v)
-counts_by initial H v h = count_chain (new_sending initial) v H h.1
+pub credit_is : OfSendings (λ initial H v. CreditIs initial H v)
+credit_is initial H v h = credit_chain (new_sending initial) v H h.1
+
+-- ---- what is told in a flow
+
+abbrev told_or : SenderFlow → Option SenderFlow → SenderFlow
+told_or f None = f
+told_or f (Some told) = told
+
+abbrev Says : SenderFlow → SenderView → Type 0
+Says told c = (told.delivery_count ≡ c.count) × (told.link_credit ≡ c.credit)
+
+answered_says : (b : Bool) (v m : SendingView) (available : ℕ) (told : SenderFlow) → AnsweredIf b available v (Some told) m → Says told m.credit
+answered_says true v m available told h =
+    let is : told ≡ told_of available m = ap (told_or told) h.1 in
+    (ap (λ (x : SenderFlow). x.delivery_count) is, ap (λ (x : SenderFlow). x.link_credit) is)
+answered_says false v m available told h = absurd (none≢some (sym h.0))
+
+answer_says : (life : Life) (v m : SendingView) (available : ℕ) (told : SenderFlow) → AttachedAnswer life available v (Some told) m → Says told m.credit
+answer_says Attached v m available told h = answered_says (is_drained available v || v.echo) v m available told h
+answer_says Attaching v m available told h = absurd (none≢some (sym h.0))
+answer_says Refused v m available told h = absurd (none≢some (sym h.0))
+answer_says Detaching v m available told h = absurd (none≢some (sym h.0))
+answer_says Detached v m available told h = absurd (none≢some (sym h.0))
+
+pub flows_say : OfSendings (λ initial H v. FlowsSay initial H)
+flows_say initial H v h before after available told e =
+    let s = split_of SendingStep (new_sending initial) v H before after (Answers available (Some told)) h.1 e in
+    subst (Says told) (credit_chain (new_sending initial) s.next (before ++ Answers available (Some told) ∷ [])
+    (joined SendingStep (new_sending initial) s.at s.next before (Answers available (Some told) ∷ []) s.reached (s.next, s.step, refl)))
+    (answer_says s.at.life s.at s.next available told s.step)
 
 -- ---- the law
 
@@ -248,9 +280,9 @@ begun_before_limit initial H v h before since after f granted size end e life sa
     (none_given s.next t.at since Attached (busy_by false before) on is_attached was_busy none) on.leads
     (flown_within s.at s.next f granted initial first (flown s.at s.next f granted (made.life ∙ life) says s.step)) in
     let some = sent_credit t.at.life t.at t.next size end (on.busy ∙ ap (λ b. busy_by b since) was_busy ∙ idle) t.step in
-    let counted = count_chain (new_sending initial) t.at (before ++ Flows f ∷ since)
+    let is = credit_chain (new_sending initial) t.at (before ++ Flows f ∷ since)
     (joined SendingStep (new_sending initial) s.at t.at before (Flows f ∷ since) s.reached (s.next, s.step, t.reached)) in
-    subst (λ n. past n (seen_or initial f.delivery_count) < granted) counted
+    subst (λ (c : SenderView). past c.count (seen_or initial f.delivery_count) < granted) is
     (before_limit t.at.credit.credit (past t.at.credit.count (seen_or initial f.delivery_count)) granted some (within some))
 
 none_left : (n : ℕ) → n ≤ 0 → 0 < n → ⊥

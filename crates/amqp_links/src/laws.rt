@@ -2,7 +2,7 @@
 
 ghost use Rattle.amqp_links.specs.SendingHistory as sending;
 ghost use Rattle.amqp_links.specs.SendingHistory.{OfSendings};
-ghost use Rattle.amqp_links.specs.SendingCredit.{BegunBeforeLimit, CountsBy, NoneBegunBefore};
+ghost use Rattle.amqp_links.specs.SendingCredit.{BegunBeforeLimit, CreditIs, FlowsSay, NoneBegunBefore};
 ghost use Rattle.amqp_links.specs.ReceivingHistory as receiving;
 ghost use Rattle.amqp_links.specs.ReceivingHistory.{OfReceivings};
 ghost use Rattle.amqp_links.specs.ReceivingCredit.{NoneToldBefore, ToldWithinGrant};
@@ -22,12 +22,14 @@ pub fn law_of_sending()
 {}
 
 /// Of each delivery that a sending end begins: the count of the link is past that which the receiver's last flow had seen by less than the credit of that
-/// flow. So it stands before the limit, which is that flow's delivery-count and link-credit; and none is begun before a flow gives credit. The count is the
-/// initial one, and one for each delivery that was begun, and else what this side's last flow says (AMQP 1.0 part 2, section 2.6.7).
+/// flow. So it stands before the limit, which is that flow's delivery-count and link-credit; and none is begun before a flow gives credit. Count and credit
+/// are what the receiver's flows, the deliveries that were begun, and the drains that were answered make of them; and each flow of this side says them
+/// (AMQP 1.0 part 2, section 2.6.7).
 pub fn law_of_limits()
     ensures limit { OfSendings (λ initial H v. BegunBeforeLimit initial H) }
     ensures none { OfSendings (λ initial H v. NoneBegunBefore H) }
-    ensures count { OfSendings (λ initial H v. CountsBy initial H v) }
+    ensures credit { OfSendings (λ initial H v. CreditIs initial H v) }
+    ensures flows { OfSendings (λ initial H v. FlowsSay initial H) }
 {}
 
 /// A receiving end stands where its Attaches and Detaches say, and what its sender may not do detaches it. It tells no transfer but while it is
