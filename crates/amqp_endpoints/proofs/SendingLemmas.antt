@@ -35,12 +35,12 @@ of_notes true q r v m s = s.0
 of_notes false q r v m s = s.0
 
 asked_for : (e : Option End) (v m : LinksView) (h : ℕ) (p : SentPart) (q : PreparedPart) → PreparesAt e v h p (Ok q) m
-    → (q.part ≡ p) × (q.is_first ≡ is_first_of e)
+    → (q.part ≡ p) × (q.sendable.is_first ≡ is_first_of e)
 asked_for None v m h p q x = absurd (ok≢err q NoSender x.0)
 asked_for (Some (Receiving s)) v m h p q x = absurd (ok≢err q NoSender x.0)
 asked_for (Some (Sending s)) v m h p q x =
     let is = of_notes (opens (is_none s.under_way) p) (prepared_of s x.0 h p) q v m x.2 in
-    (ap (λ (y : PreparedPart). y.part) is, ap (λ (y : PreparedPart). y.is_first) is)
+    (ap (λ (y : PreparedPart). y.part) is, ap (λ (y : PreparedPart). y.sendable.is_first) is)
 
 -- the stream is handed the same, whatever the links are
 same_head : {R : Type 0} (g : Relays R) (v : EndpointView) (m : LinksView) (s s' : StreamView R) (head : TransferHead) (bytes : List ℕ) (first : Bool)
@@ -71,7 +71,7 @@ begins : (b : Bool) (v w : EndpointView) (m : LinksView) (h n : ℕ) (Step Whole
 begins b v w m h n Step Whole whole x = (whole x.0, x.1, x.2)
 
 finished : {R : Type 0} (lets : Bool) (g : Relays R) (v w : EndpointView) (m : LinksView) (s s' : StreamView R) (head : TransferHead) (bytes : List ℕ) (p : SentPart)
-    (first : Bool) (q : PreparedPart) (told : SentDelivery) → q.part ≡ p → q.is_first ≡ first
+    (first : Bool) (q : PreparedPart) (told : SentDelivery) → q.part ≡ p → q.sendable.is_first ≡ first
     → PreparesAt (end_at v.links.ends head.link) v.links head.link p (Ok q) m
     → AsksPart lets g (record v { links = m }) s head bytes first q (Ok told) s' w → SendsPart lets g v s head bytes p first (Ok told) s' w
 finished lets g v w m s s' head bytes p first q told part is prepares x =

@@ -159,7 +159,7 @@ SendsDelivery g v s head bytes given result s' w =
 -- a part that was prepared is finished
 abbrev pub Finishes : EndpointView → ℕ → PreparedPart → SentDelivery → EndpointView → Type 0
 Finishes v h q told w = (told.number ≡ q.part.number)
-    × NotesSent q.is_first v h q.part.number (λ l m. FinishesAt (end_at l.ends q.handle) q l told.settled m) w
+    × NotesSent q.sendable.is_first v h q.part.number (λ l m. FinishesAt (end_at l.ends q.handle) q l told.settled m) w
 
 -- the stream takes a part that was prepared, and it is finished; or it does not, and it is cancelled
 abbrev pub AsksPart : {R : Type 0} → Bool → Relays R → EndpointView → StreamView R → TransferHead → List ℕ → Bool → PreparedPart → Result SentDelivery SendFailure

@@ -2,6 +2,7 @@ pub mod DueLemmas
 mod SendingLemmas
 mod ReceivingLemmas
 mod ReceivingHistoryLemmas
+mod PreparingLemmas
 mod SessionLemmas
 pub mod PreparedLemmas
 pub mod HalvesLemmas

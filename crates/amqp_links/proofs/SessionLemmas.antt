@@ -1,38 +1,19 @@
 -- A part that is sent: it is prepared, and then finished.
-use Rattle.std.proofs.Common.{ℕ, ◌≡◌, ◌&&◌, ◌++◌, List, [], ◌∷◌, Bool, true, false, not, Option, Some, None, Result, Ok, Err, refl, sym, ap, subst, ◌∙◌, is_some, true≢false}
+use Rattle.std.proofs.Common.{ℕ, ◌≡◌, ◌&&◌, ◌++◌, List, [], ◌∷◌, Bool, true, false, not, Option, Some, None, Ok, refl, sym, ap, subst, ◌∙◌}
 use Rattle.amqp_unsettled.specs.declared.entry.Entry.{Entry}
 use Rattle.amqp_unsettled.specs.Table.{is_next}
+use Rattle.amqp_links.proofs.PreparingLemmas.{sent_is}
 use Rattle.amqp_links.proofs.ReceivingLemmas.{ok≢err}
 use Rattle.amqp_links.specs.declared.end.End.{End}
 use Rattle.amqp_links.specs.declared.end.End.TheVariants.{Sending, Receiving}
 use Rattle.amqp_links.specs.declared.session.sending.PreparedPart.{PreparedPart}
 use Rattle.amqp_links.specs.declared.session.sending.SentPart.{SentPart}
-use Rattle.amqp_links.specs.declared.session.sending.SendPartError.{SendPartError}
-use Rattle.amqp_links.specs.declared.session.sending.SendPartError.TheVariants.{NoSender, Link, NotNext, OutOfMemory}
 use Rattle.amqp_links.specs.Ends.{Puts, end_at}
 use Rattle.amqp_links.specs.Noting.{GivesBack, Notes, entry_of}
-use Rattle.amqp_links.specs.Preparing.{FinishesAt, GivesIf, NotesIf, NotesPrepared, PreparesAt, PreparesOn, entry_in, opens, prepared_of}
-use Rattle.amqp_links.specs.Sending.{SendingView, SendsStep, is_none}
-use Rattle.amqp_links.specs.Sending as sending
+use Rattle.amqp_links.specs.Preparing.{FinishesAt, GivesIf, NotesIf, PreparesAt, entry_in, prepared_of}
+use Rattle.amqp_links.specs.Sending.{SendingView, is_none}
 use Rattle.amqp_links.specs.SendingParts.{SendsAt, settles}
 use Rattle.amqp_links.specs.Session.{LinksView}
-
-pub none_of : (o : Option ℕ) (b : Bool) → not b ≡ is_some o → b ≡ sending.is_none o
-none_of None true h = refl
-none_of None false h = absurd (true≢false h)
-none_of (Some n) true h = absurd (true≢false (sym h))
-none_of (Some n) false h = refl
-
--- what is noted of a part that the link allows, by what the step is
-pub prepares_on : (s t : SendingView) (v w : LinksView) (h : ℕ) (p : SentPart) (result : Result PreparedPart SendPartError) →
-    SendsStep s p.size p.end (Ok tt) t → NotesPrepared (prepared_of s t h p) v result w → (b : Bool) → opens (is_none s.under_way) p ≡ b →
-    PreparesOn s v h p result w
-prepares_on s t v w h p (Ok q) step notes b e = (t, step, notes)
-prepares_on s t v w h p (Err NoSender) step notes b e = (t, step, notes)
-prepares_on s t v w h p (Err (Link error)) step notes true e = absurd (subst (λ x. NotesIf x (prepared_of s t h p) v (Err (Link error)) w) e notes)
-prepares_on s t v w h p (Err (Link error)) step notes false e = absurd (subst (λ x. NotesIf x (prepared_of s t h p) v (Err (Link error)) w) e notes)
-prepares_on s t v w h p (Err NotNext) step notes b e = (t, step, notes)
-prepares_on s t v w h p (Err OutOfMemory) step notes b e = (t, step, notes)
 
 -- ---- both halves
 
@@ -46,7 +27,7 @@ puts_rest t v m w h mid e puts same = (
 
 -- what both halves do is what the whole does
 whole : (first settled : Bool) (t : SendingView) (v m w : LinksView) (h : ℕ) (p : SentPart) (given : Option ℕ) (q r : PreparedPart)
-    → q ≡ record { handle = h; part = p; is_first = first; link = t } → NotesIf (first && not settled) q v (Ok r) m → GivesIf first settled q m given w
+    → q ≡ record { handle = h; part = p; sendable = record { is_first = first; under_way = t.under_way } } → NotesIf (first && not settled) q v (Ok r) m → GivesIf first settled q m given w
     → Puts m.ends h (Some (Sending t)) w.ends → w ≡ record m { ends = w.ends; sent = w.sent }
     → Notes first settled v.sent (entry_of p.number h p.given) (Ok given) w.sent × Puts v.ends h (Some (Sending t)) w.ends
     × (w ≡ record v { ends = w.ends; sent = w.sent })
@@ -89,4 +70,6 @@ sends_by v m w h p r given (Some (Sending s)) q prepares finishes =
     let there : end_at m.ends h ≡ Some (Sending s) = ap (λ x. end_at x h) (same_ends (first && not (settles p)) (prepared_of s t h p) r v m prepares.2) ∙ q in
     let done : FinishesAt (Some (Sending s)) (prepared_of s t h p) m given w =
     subst (λ x. FinishesAt x (prepared_of s t h p) m given w) there (subst (λ x. FinishesAt (end_at m.ends x.handle) x m given w) r_is finishes) in
-    (t, prepares.1, whole first (settles p) t v m w h p given (prepared_of s t h p) r refl prepares.2 done.0 done.1 done.2)
+    let puts : Puts m.ends h (Some (Sending t)) w.ends =
+    subst (λ x. Puts m.ends h (Some (Sending x)) w.ends) (sym (sent_is s t p.size p.end prepares.1)) done.1 in
+    (t, prepares.1, whole first (settles p) t v m w h p given (prepared_of s t h p) r refl prepares.2 done.0 puts done.2)

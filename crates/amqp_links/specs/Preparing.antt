@@ -1,4 +1,4 @@
--- Part: other calls.
+-- Part: other calls; inner.
 -- A part of a delivery is sent in two halves, where somebody else may still refuse it (AMQP 1.0 part 2, sections 2.6.12 to 2.6.14).
 use Rattle.std.specs.Prelude.{ℕ, ◌≡◌, ◌<◌, ◌^◌, ◌&&◌, not, Bool, true, false, Option, Some, None, Result, Ok, Err}
 use Rattle.amqp_unsettled.specs.declared.entry.Entry.{Entry}
@@ -12,7 +12,10 @@ use Rattle.amqp_links.specs.declared.session.sending.SendPartError.{SendPartErro
 use Rattle.amqp_links.specs.declared.session.sending.SendPartError.TheVariants.{NoSender, Link, NotNext, OutOfMemory}
 use Rattle.amqp_links.specs.Ends.{Puts, end_at}
 use Rattle.amqp_links.specs.Noting.{GivesBack, entry_of}
-use Rattle.amqp_links.specs.Sending.{SendingView, SendsStep, is_none}
+use Rattle.amqp_links.specs.declared.sending.SendError.{SendError}
+use Rattle.amqp_links.specs.declared.sending.Sendable.{Sendable}
+use Rattle.amqp_credit.specs.declared.part.PartEnd.{PartEnd}
+use Rattle.amqp_links.specs.Sending.{SendingView, SendsStep, having_sent, is_none, prepared_send}
 use Rattle.amqp_links.specs.SendingParts.{SendsAt, settles}
 use Rattle.amqp_links.specs.Session.{LinksView}
 
@@ -33,11 +36,11 @@ NotesIf true q v (Err OutOfMemory) w = InsertStep v.sent (entry_in q) (Err table
 NotesIf true q v (Err error) w = ⊥
 
 abbrev pub NotesPrepared : PreparedPart → LinksView → Result PreparedPart SendPartError → LinksView → Type 0
-NotesPrepared q v result w = NotesIf (opens q.is_first q.part) q v result w
+NotesPrepared q v result w = NotesIf (opens q.sendable.is_first q.part) q v result w
 
 -- the part of this link, which begins a delivery where none is under way
 abbrev pub prepared_of : SendingView → SendingView → ℕ → SentPart → PreparedPart
-prepared_of s t h p = record { handle = h; part = p; is_first = is_none s.under_way; link = t }
+prepared_of s t h p = record { handle = h; part = p; sendable = record { is_first = is_none s.under_way; under_way = t.under_way } }
 
 -- The link allows the part, and its delivery is put in, or not. Or the link does not allow it.
 abbrev pub PreparesOn : SendingView → LinksView → ℕ → SentPart → Result PreparedPart SendPartError → LinksView → Type 0
@@ -55,11 +58,21 @@ abbrev pub GivesIf : Bool → Bool → PreparedPart → LinksView → Option ℕ
 GivesIf false true q v result w = GivesBack v.sent q.handle q.part.number result w.sent
 GivesIf is_first settled q v result w = (result ≡ None) × (w.sent ≡ v.sent)
 
+-- what is answered to a transfer by the end, if it sends
+abbrev pub sendable_on : Option End → ℕ → PartEnd → Option (Result Sendable SendError)
+sendable_on (Some (Sending s)) size end = Some (prepared_send s size end)
+sendable_on e size end = None
+
+-- the end with a transfer that was prepared
+abbrev pub having_sent_on : Option End → Sendable → Option End
+having_sent_on (Some (Sending s)) x = Some (Sending (having_sent s x))
+having_sent_on e x = e
+
 -- The end stands as after the part.
 abbrev pub FinishesAt : Option End → PreparedPart → LinksView → Option ℕ → LinksView → Type 0
 FinishesAt None q v result w = (result ≡ None) × (w ≡ v)
 FinishesAt (Some e) q v result w =
-    GivesIf q.is_first (settles q.part) q v result w × Puts v.ends q.handle (Some (Sending q.link)) w.ends
+    GivesIf q.sendable.is_first (settles q.part) q v result w × Puts v.ends q.handle (having_sent_on (Some e) q.sendable) w.ends
     × (w ≡ record v { ends = w.ends; sent = w.sent })
 
 -- what it put in is taken out
@@ -68,7 +81,7 @@ CancelsIf false q v w = w ≡ v
 CancelsIf true q v w = w ≡ record v { sent = without_first (has_number q.part.number) v.sent }
 
 abbrev pub CancelsSend : PreparedPart → LinksView → LinksView → Type 0
-CancelsSend q v w = CancelsIf (opens q.is_first q.part) q v w
+CancelsSend q v w = CancelsIf (opens q.sendable.is_first q.part) q v w
 
 -- A part that is prepared and then cancelled leaves all as it was.
 abbrev pub CancelRestores : Type 0

@@ -1,7 +1,7 @@
--- Part: other calls.
+-- Part: other calls; inner.
 -- The sending end of a link, and what each call makes of it (AMQP 1.0 part 2, sections 2.6.3, 2.6.7 and 2.6.14).
 use Rattle.std.specs.Prelude.{ℕ, zero, suc, ◌+◌, ◌-◌, ◌^◌, ◌<◌, ◌≡◌, ◌||◌, ◌&&◌, min, nat_lt, nat_eq, Bool, true, false}
-use Rattle.std.specs.Prelude.{Option, Some, None, Result, Ok, Err}
+use Rattle.std.specs.Prelude.{Option, Some, None, Result, Ok, Err, if◌then◌else◌}
 use Rattle.amqp_credit.specs.Sender.{SenderView, new_sender, flowed, taken_from, drainable, is_drain_wanted}
 use Rattle.amqp_credit.specs.declared.part.PartEnd.{PartEnd}
 use Rattle.amqp_credit.specs.declared.part.PartEnd.TheVariants.{More, Last, Aborted}
@@ -11,6 +11,7 @@ use Rattle.amqp_links.specs.declared.life.LinkEnd.{LinkEnd}
 use Rattle.amqp_links.specs.declared.sending.CreditFlow.{CreditFlow}
 use Rattle.amqp_links.specs.declared.sending.SenderFlow.{SenderFlow}
 use Rattle.amqp_links.specs.declared.sending.SendError.{SendError}
+use Rattle.amqp_links.specs.declared.sending.Sendable.{Sendable}
 use Rattle.amqp_links.specs.declared.sending.SendError.TheVariants.{NotAttached, TooLarge, NoCredit, NoneUnderWay}
 use Rattle.amqp_links.specs.Life.{having_attached, having_detached, end_of}
 
@@ -116,6 +117,42 @@ AttachedSend life v size end result w = (result ≡ Err NotAttached) × (w ≡ v
 -- a transfer is to be sent: of a link that is attached, within its limit, and where it begins a delivery by credit
 abbrev pub SendsStep : SendingView → ℕ → PartEnd → Result (Unit {0}) SendError → SendingView → Type 0
 SendsStep v size end result w = AttachedSend v.life v size end result w
+
+-- ---- a transfer in two halves
+
+-- a delivery may be begun: there is credit, and the transfer aborts none
+abbrev pub may_begin : SendingView → PartEnd → Result (Unit {0}) SendError
+may_begin v Aborted = Err NoneUnderWay
+may_begin v More = if nat_eq v.credit.credit 0 then Err NoCredit else Ok tt
+may_begin v Last = if nat_eq v.credit.credit 0 then Err NoCredit else Ok tt
+
+abbrev pub sendable_if : Result (Unit {0}) SendError → Option ℕ → Result Sendable SendError
+sendable_if (Ok done) under_way = Ok (record { is_first = true; under_way = under_way })
+sendable_if (Err error) under_way = Err error
+
+abbrev pub sendable_within : Option ℕ → SendingView → ℕ → PartEnd → Result Sendable SendError
+sendable_within None v whole end = sendable_if (may_begin v end) (left_under_way end whole)
+sendable_within (Some n) v whole end = Ok (record { is_first = false; under_way = left_under_way end whole })
+
+abbrev pub sendable_sized : Bool → SendingView → ℕ → PartEnd → Result Sendable SendError
+sendable_sized true v whole end = Err TooLarge
+sendable_sized false v whole end = sendable_within v.under_way v whole end
+
+abbrev pub sendable_at : Life → SendingView → ℕ → PartEnd → Result Sendable SendError
+sendable_at Attached v size end = sendable_sized (is_too_large v.limit (size_with v.under_way size end) end) v (size_with v.under_way size end) end
+sendable_at life v size end = Err NotAttached
+
+-- what is answered to a transfer, before anything has changed
+abbrev pub prepared_send : SendingView → ℕ → PartEnd → Result Sendable SendError
+prepared_send v size end = sendable_at v.life v size end
+
+-- a delivery takes one of the credit, if there is any
+abbrev pub begun : SenderView → SenderView
+begun c = if nat_eq c.credit 0 then c else taken_from 1 c
+
+-- the transfer that was prepared is sent
+abbrev pub having_sent : SendingView → Sendable → SendingView
+having_sent v s = record v { credit = if s.is_first then begun v.credit else v.credit; under_way = s.under_way }
 
 -- ---- what is answered
 

@@ -3,12 +3,14 @@
 ghost use Rattle.std.specs.Prelude.{◌≡◌, ◌≢◌, ◌≤◌, ◌<◌, ℕ, max, [], None, Some, OnOk, OnErr, length, vec_len, vec_capacity};
 ghost use Rattle.amqp_memory.specs.Refusal.{SomeRefused};
 ghost use Rattle.amqp_links.specs.Ends.{end_at, Puts};
+ghost use Rattle.amqp_links.specs.Preparing.{having_sent_on, sendable_on};
 ghost use Rattle.amqp_links.specs.PreparingFlow.{due_at};
 ghost use Rattle.amqp_links.specs.TakingParts.{prepared_at, refusing_at, with_part};
 
 use crate::end::End;
 use crate::receiving::TransferError;
-use amqp_credit::{Part, PartHead};
+use crate::sending::{SendError, Sendable};
+use amqp_credit::{Part, PartEnd, PartHead};
 use amqp_memory::more_in_vector;
 use std::alloc::{AllocError, Global};
 use std::marker::Model;
@@ -56,6 +58,32 @@ impl Ends {
         match self.places.get(handle as usize) {
             Some(Some(End::Receiving(link))) => link.is_renewal_due(),
             _ => false,
+        }
+    }
+
+    /// What a transfer that is to go out on the link of this handle is. `None` where no sending end has it. The end is looked at where it stands.
+    #[inline(always)]
+    pub(crate) fn prepare_send(
+        &self,
+        handle: u32,
+        size: u64,
+        end: PartEnd,
+    ) -> Option<Result<Sendable, SendError>>
+        ensures { result ≡ sendable_on (end_at self.now handle) size end }
+    {
+        match self.places.get(handle as usize) {
+            Some(Some(End::Sending(link))) => Some(link.prepare(size, end)),
+            _ => None,
+        }
+    }
+
+    /// The transfer that was prepared is sent. The end is changed where it stands.
+    #[inline(always)]
+    pub(crate) fn finish_send(&mut self, handle: u32, sendable: Sendable)
+        ensures { Puts self.old handle (having_sent_on (end_at self.old handle) sendable) self.new }
+    {
+        if (handle as usize) < self.places.len() {
+            send_in(&mut self.places[handle as usize], sendable);
         }
     }
 
@@ -130,6 +158,16 @@ impl Ends {
         self.make_room(handle)?;
         self.places[handle as usize] = Some(end);
         Ok(())
+    }
+}
+
+/// The transfer that was prepared is sent, by the end that is there.
+#[inline(always)]
+fn send_in(place: &mut Option<End>, sendable: Sendable)
+    ensures { place.new ≡ having_sent_on place.old sendable }
+{
+    if let Some(End::Sending(link)) = place {
+        link.finish(sendable);
     }
 }
 

@@ -1,8 +1,8 @@
 //! The sending end of a link.
 
 ghost use Rattle.std.specs.Prelude.{◌≡◌};
-ghost use Rattle.amqp_links.specs.Sending.{new_sending, AttachStep, FlowsStep, SendsStep, AnswerStep, BeginsStep, DetachStep, EndsStep};
-ghost use Rattle.amqp_links.specs.Sending.{is_too_large, size_with, left_under_way, is_ready};
+ghost use Rattle.amqp_links.specs.Sending.{new_sending, AttachStep, FlowsStep, SendsStep, AnswerStep, DetachStep, EndsStep};
+ghost use Rattle.amqp_links.specs.Sending.{having_sent, is_ready, is_too_large, left_under_way, may_begin, prepared_send, size_with};
 
 use crate::life::{Life, LinkEnd, attached, detached, end_of};
 use amqp_credit::{PartEnd, SenderCredit};
@@ -46,6 +46,13 @@ pub enum SendError {
     NoneUnderWay,
     /// The credit is 0: no delivery may be begun.
     NoCredit,
+}
+
+/// A transfer that the link allows: whether it begins its delivery, and how many bytes are under way after it, if more of it follows.
+#[derive(Clone, Copy, Debug)]
+pub(crate) struct Sendable {
+    pub(crate) is_first: bool,
+    pub(crate) under_way: Option<u64>,
 }
 
 /// The sending end of one link (AMQP 1.0 part 2, sections 2.6.7 and 2.6.14): whether it is attached, how many deliveries it may begin, and the
@@ -125,8 +132,23 @@ impl SendingLink {
     ///
     /// # Errors
     /// Each [`SendError`] says when, in this order. Nothing changes then.
+    #[tactic(auto, using(crate::proofs::PreparingLemmas::sent, crate::proofs::PreparingLemmas::not_sent))]
     pub fn send(&mut self, size: u64, end: PartEnd) -> Result<(), SendError>
         ensures { SendsStep self.old size end result self.new }
+    {
+        match self.prepare(size, end) {
+            Ok(sendable) => {
+                self.finish(sendable);
+                Ok(())
+            }
+            Err(error) => Err(error),
+        }
+    }
+
+    /// What [`SendingLink::send`] answers, before anything has changed, and how the link stands after it.
+    #[inline(always)]
+    pub(crate) fn prepare(&self, size: u64, end: PartEnd) -> Result<Sendable, SendError>
+        ensures { result ≡ prepared_send self.now size end }
     {
         if self.life != Life::Attached {
             return Err(SendError::NotAttached);
@@ -135,24 +157,39 @@ impl SendingLink {
         if is_too_large(self.limit, whole, end) {
             return Err(SendError::TooLarge);
         }
-        if self.under_way.is_none() {
-            self.begin(end)?;
+        let is_first = self.under_way.is_none();
+        if is_first {
+            self.may_begin(end)?;
         }
-        self.under_way = left_under_way(end, whole);
-        Ok(())
+        Ok(Sendable {
+            is_first,
+            under_way: left_under_way(end, whole),
+        })
     }
 
-    /// A delivery is begun.
-    fn begin(&mut self, end: PartEnd) -> Result<(), SendError>
-        ensures { BeginsStep self.old end result self.new }
+    /// Whether a transfer may begin a delivery: where there is credit, and it aborts none.
+    #[inline(always)]
+    fn may_begin(&self, end: PartEnd) -> Result<(), SendError>
+        ensures { result ≡ may_begin self.now end }
     {
         if matches!(end, PartEnd::Aborted) {
-            return Err(SendError::NoneUnderWay);
+            Err(SendError::NoneUnderWay)
+        } else if self.credit.credit() == 0 {
+            Err(SendError::NoCredit)
+        } else {
+            Ok(())
         }
-        match self.credit.send() {
-            Ok(()) => Ok(()),
-            Err(_) => Err(SendError::NoCredit),
+    }
+
+    /// The transfer that was prepared is sent.
+    #[inline(always)]
+    pub(crate) fn finish(&mut self, sendable: Sendable)
+        ensures { self.new ≡ having_sent self.old sendable }
+    {
+        if sendable.is_first {
+            drop(self.credit.send());
         }
+        self.under_way = sendable.under_way;
     }
 
     /// The flow that is to be sent, if one is, where so many messages are ready: the receiver asked for an echo; or it asked to drain, nothing is ready and no

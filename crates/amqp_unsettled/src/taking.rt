@@ -73,5 +73,9 @@ impl<T: Numbered> Cells<T> {
         ensures items { items_in self.new ≡ drop 1 (items_in self.old) }
     {
         self.head += 1;
+        if self.head == self.cells.len() {
+            self.cells.clear();
+            self.head = 0;
+        }
     }
 }

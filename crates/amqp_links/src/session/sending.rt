@@ -4,12 +4,11 @@ ghost use Rattle.std.specs.Prelude.{◌≡◌};
 ghost use Rattle.amqp_links.specs.Ends.{end_at};
 ghost use Rattle.amqp_links.specs.Noting.{entry_of};
 ghost use Rattle.amqp_links.specs.SendingParts.{SendsAt, settles};
-ghost use Rattle.amqp_links.specs.Preparing.{PreparesAt, PreparesOn, NotesPrepared, FinishesAt, CancelsSend, opens};
+ghost use Rattle.amqp_links.specs.Preparing.{PreparesAt, NotesPrepared, FinishesAt, CancelsSend, opens};
 
 use super::SessionLinks;
 use super::noting::settle_own;
-use crate::end::End;
-use crate::sending::{SendError, SendingLink};
+use crate::sending::{SendError, Sendable};
 use amqp_credit::PartEnd;
 use amqp_unsettled::{Entry, InsertError};
 
@@ -47,8 +46,7 @@ pub enum SendPartError {
 pub struct PreparedPart {
     handle: u32,
     part: SentPart,
-    is_first: bool,
-    link: SendingLink,
+    sendable: Sendable,
 }
 
 impl PreparedPart {
@@ -61,16 +59,16 @@ impl PreparedPart {
 
     /// Whether it begins its delivery.
     pub fn is_first(&self) -> bool
-        ensures { result ≡ self.now.is_first }
+        ensures { result ≡ self.now.sendable.is_first }
     {
-        self.is_first
+        self.sendable.is_first
     }
 
     /// Whether its delivery is unsettled from it on.
     fn opens(&self) -> bool
-        ensures { result ≡ opens self.now.is_first self.now.part }
+        ensures { result ≡ opens self.now.sendable.is_first self.now.part }
     {
-        self.is_first && !self.part.settles()
+        self.sendable.is_first && !self.part.settles()
     }
 }
 
@@ -96,6 +94,7 @@ impl SessionLinks {
     ///
     /// # Errors
     /// Those of [`SessionLinks::send`]: nothing has changed then.
+    #[tactic(auto, using(crate::proofs::PreparingLemmas::no_sender, crate::proofs::PreparingLemmas::prepared, crate::proofs::PreparingLemmas::not_prepared))]
     pub fn prepare_send(
         &mut self,
         handle: u32,
@@ -103,35 +102,15 @@ impl SessionLinks {
     ) -> Result<PreparedPart, SendPartError>
         ensures { PreparesAt (end_at self.old.ends handle) self.old handle part result self.new }
     {
-        let Some(end) = self.end(handle) else {
-            return Err(SendPartError::NoSender);
-        };
-        match end {
-            End::Sending(link) => self.prepare_on(link, handle, part),
-            End::Receiving(_) => Err(SendPartError::NoSender),
+        match self.ends.prepare_send(handle, part.size, part.end) {
+            None => Err(SendPartError::NoSender),
+            Some(Ok(sendable)) => self.note_prepared(PreparedPart {
+                handle,
+                part,
+                sendable,
+            }),
+            Some(Err(error)) => Err(SendPartError::Link(error)),
         }
-    }
-
-    /// The same of the end that has the handle.
-    fn prepare_on(
-        &mut self,
-        link: SendingLink,
-        handle: u32,
-        part: SentPart,
-    ) -> Result<PreparedPart, SendPartError>
-        ensures { PreparesOn link self.old handle part result self.new }
-    {
-        let is_first = link.under_way().is_none();
-        let mut link = link;
-        if let Err(error) = link.send(part.size, part.end) {
-            return Err(SendPartError::Link(error));
-        }
-        self.note_prepared(PreparedPart {
-            handle,
-            part,
-            is_first,
-            link,
-        })
     }
 
     /// Its delivery is unsettled, where it begins one that is not settled.
@@ -156,8 +135,8 @@ impl SessionLinks {
         if self.end(prepared.handle).is_none() {
             return None;
         }
-        self.put(prepared.handle, End::Sending(prepared.link));
-        if prepared.is_first || !prepared.part.settles() {
+        self.ends.finish_send(prepared.handle, prepared.sendable);
+        if prepared.sendable.is_first || !prepared.part.settles() {
             return None;
         }
         settle_own(&mut self.sent, prepared.handle, prepared.part.number)

@@ -4,8 +4,8 @@ use Rattle.amqp_unsettled.specs.Inner.Rows.{IsFullRow, there, used}
 use Rattle.amqp_unsettled.proofs.TakeLemmas.{skip_row, skip_items, some_used}
 use Rattle.amqp_unsettled.proofs.cells.Cells.skip_first.Goals as goal
 
-pub returns-clause-row : goal.returns-clause-row
-returns-clause-row g c =
+pub returns-else-self-len-clause-row : goal.returns-else-self-len-clause-row
+returns-else-self-len-clause-row g c =
     let f = g.T.Numbered.number_of in
     let s = c.args.self.now in
     let none = subst (λ n. IsFullRow f (used s) n) c.requires.plain c.requires.row.row in
@@ -18,8 +18,8 @@ returns-clause-row g c =
           none));
     }
 
-pub returns-clause-items : goal.returns-clause-items
-returns-clause-items g c =
+pub returns-else-self-len-clause-items : goal.returns-else-self-len-clause-items
+returns-else-self-len-clause-items g c =
     let f = g.T.Numbered.number_of in
     let s = c.args.self.now in
     ap there (sym (drop-drop 1 s.head s.cells.items))
