@@ -70,6 +70,9 @@ by (Ok d) v head p is e =
 pub takes : (v : AssemblyView) (head : PartHead) (p : Part) → Ok p ≡ prepared v head → PartStep v head (Ok p) (finished v head p)
 takes v head p e = by (belongs v.current head) v head p refl e
 
+pub takes_as : (v w : AssemblyView) (head : PartHead) (p : Part) → Ok p ≡ prepared v head → w ≡ finished v head p → PartStep v head (Ok p) w
+takes_as v w head p e is = subst (λ x. PartStep v head (Ok p) x) (sym is) (takes v head p e)
+
 -- ---- what is refused
 
 unchanged : (b : Bool) (v : AssemblyView) (p : Part) (w : AssemblyView) (error : PartError) →

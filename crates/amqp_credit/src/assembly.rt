@@ -1,6 +1,6 @@
 //! The parts of the deliveries that come over one link.
 
-ghost use Rattle.std.specs.Prelude.{◌≡◌};
+ghost use Rattle.std.specs.Prelude.{◌≡◌, Ok};
 ghost use Rattle.amqp_credit.specs.Assembly.{new_assembly, PartStep, begun, belongs, differs};
 ghost use Rattle.amqp_credit.specs.Assembly.{goes_on, with_part, settles, end_of, part_of, fits};
 ghost use Rattle.amqp_credit.specs.Assembly.{format_of, finished, number_in, prepared};
@@ -91,11 +91,14 @@ impl Assembly {
         }
     }
 
-    /// The part that was prepared for this head is taken: its delivery has it from now on. One that was not prepared so is
-    /// taken all the same, as it says.
+    /// The part that was prepared for this head is taken: its delivery has it from now on. It is the one that
+    /// [`Assembly::prepare`] would answer now.
     #[inline(always)]
+    #[tactic(auto, using(crate::proofs::HalvesLemmas::takes_as))]
     pub fn finish(&mut self, head: PartHead, part: Part)
-        ensures { self.new ≡ finished self.old head part }
+        requires prepared { Ok part ≡ prepared self.old head }
+        ensures step { PartStep self.old head (Ok part) self.new }
+        ensures is { self.new ≡ finished self.old head part }
     {
         if matches!(part.end, PartEnd::More) {
             self.current = Some(Delivery {

@@ -67,6 +67,25 @@ told_is : (p : Part) (r : Result Part PartError) → Ok p ≡ told_by_parts r �
 told_is p (Ok q) e = ap Ok (ap (or_else p) e)
 told_is p (Err error) e = absurd (err≢ok (sym e))
 
+unless_over : (b : Bool) (v : ReceivingView) (head : PartHead) (p : Part) → Ok p ≡ told_unless b v head → Ok p ≡ prepared v.parts head
+unless_over true v head p e = absurd (err≢ok (sym e))
+unless_over false v head p e = told_is p (prepared v.parts head) e
+
+if_attached_part : (l : Life) (v : ReceivingView) (head : PartHead) (p : Part) → Ok p ≡ told_if_attached l v head → Ok p ≡ prepared v.parts head
+if_attached_part Attaching v head p e = absurd (err≢ok (sym e))
+if_attached_part Refused v head p e = absurd (err≢ok (sym e))
+if_attached_part Attached v head p e = unless_over (is_over v) v head p e
+if_attached_part Detaching v head p e = absurd (err≢ok (sym e))
+if_attached_part Detached v head p e = absurd (err≢ok (sym e))
+
+-- a part that is prepared was prepared by the parts before it
+pub prepares_part : (v : ReceivingView) (head : PartHead) (p : Part) → Ok p ≡ prepared_part v head → Ok p ≡ prepared v.parts head
+prepares_part v head p e = if_attached_part v.life v head p e
+
+-- and by the end that receives
+pub told_there : (s : ReceivingView) (head : PartHead) (p : Part) → Some (Ok p) ≡ prepared_at (Some (Receiving s)) head → Ok p ≡ prepared_part s head
+told_there s head p e = ap (some_or (Ok p)) e
+
 counts : (b : Bool) (v : ReceivingView) (head : PartHead) (p : Part) → is_over v ≡ b → Ok p ≡ told_unless b v head →
     CountsIf b v head (Ok p) (with_taken v head p)
 counts true v head p o e = absurd (err≢ok (sym e))

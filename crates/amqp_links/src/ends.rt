@@ -1,6 +1,6 @@
 //! The ends of a session's links, by their handles.
 
-ghost use Rattle.std.specs.Prelude.{◌≡◌, ◌≢◌, ◌≤◌, ◌<◌, ℕ, max, [], None, Some, OnOk, OnErr, length, vec_len, vec_capacity};
+ghost use Rattle.std.specs.Prelude.{◌≡◌, ◌≢◌, ◌≤◌, ◌<◌, ℕ, max, [], None, Some, Ok, OnOk, OnErr, length, vec_len, vec_capacity};
 ghost use Rattle.amqp_memory.specs.Refusal.{SomeRefused};
 ghost use Rattle.amqp_links.specs.Ends.{end_at, Puts};
 ghost use Rattle.amqp_links.specs.Preparing.{having_sent_on, sendable_on};
@@ -105,6 +105,7 @@ impl Ends {
     /// The part that was prepared is told. The end is changed where it stands.
     #[inline(always)]
     pub(crate) fn finish_part(&mut self, handle: u32, head: PartHead, part: Part)
+        requires prepared { Some (Ok part) ≡ prepared_at (end_at self.old handle) head }
         ensures { Puts self.old handle (with_part (end_at self.old handle) head part) self.new }
     {
         if (handle as usize) < self.places.len() {
@@ -173,7 +174,9 @@ fn send_in(place: &mut Option<End>, sendable: Sendable)
 
 /// The part that was prepared is told, by the end that is there.
 #[inline(always)]
+#[tactic(auto, using(crate::proofs::TakingLemmas::told_there))]
 fn finish_in(place: &mut Option<End>, head: PartHead, part: Part)
+    requires prepared { Some (Ok part) ≡ prepared_at place.old head }
     ensures { place.new ≡ with_part place.old head part }
 {
     if let Some(End::Receiving(link)) = place {

@@ -1,6 +1,6 @@
 //! The receiving end of a link.
 
-ghost use Rattle.std.specs.Prelude.{◌≡◌};
+ghost use Rattle.std.specs.Prelude.{◌≡◌, Ok};
 ghost use Rattle.amqp_links.specs.Receiving.{new_receiving, AttachStep, GrantStep, DrainStep, RenewStep, HeardStep, AnswerStep, is_renewal_due};
 ghost use Rattle.amqp_links.specs.Receiving.{TakesStep, DetachStep, EndsStep, condition_of, prepared_part, refusing, with_taken};
 ghost use Rattle.amqp_credit.specs.Assembly.{number_in};
@@ -211,7 +211,9 @@ impl ReceivingLink {
 
     /// The part that was prepared for this head is told: it counts.
     #[inline(always)]
+    #[tactic(auto, using(crate::proofs::TakingLemmas::prepares_part))]
     pub(crate) fn finish(&mut self, head: PartHead, part: Part)
+        requires prepared { Ok part ≡ prepared_part self.old head }
         ensures { self.new ≡ with_taken self.old head part }
     {
         self.parts.finish(head, part);

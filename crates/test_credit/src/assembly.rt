@@ -67,9 +67,12 @@ fn a_part_in_two_halves(rt: HostRuntime) -> Result<(), Fail> {
         settled: false,
         size: 60,
     };
-    same(&rt, parts.prepare(head), Ok(part));
+    let prepared = parts.prepare(head);
+    same(&rt, prepared, Ok(part));
     same(&rt, parts.under_way(), None);
-    parts.finish(head, part);
+    if let Ok(prepared) = prepared {
+        parts.finish(head, prepared);
+    }
     same(&rt, parts.under_way(), Some(7));
     let other = PartHead {
         format: Some(1),

@@ -1,7 +1,8 @@
 //! Parts of deliveries that have come.
 
+ghost use Rattle.std.specs.Prelude.{◌≡◌, Ok, Some};
 ghost use Rattle.amqp_links.specs.Ends.{end_at};
-ghost use Rattle.amqp_links.specs.TakingParts.{TakesAt, NotesOn, with_part};
+ghost use Rattle.amqp_links.specs.TakingParts.{TakesAt, NotesOn, prepared_at, with_part};
 
 use super::SessionLinks;
 use super::noting::note;
@@ -68,6 +69,7 @@ impl SessionLinks {
         part: Part,
         given: u64,
     ) -> Result<ReceivedPart, TakePartError>
+        requires prepared { Some (Ok part) ≡ prepared_at (end_at self.old.ends handle) head }
         ensures { NotesOn (with_part (end_at self.old.ends handle) head part) self.old handle part given result self.new }
     {
         let entry = Entry {
