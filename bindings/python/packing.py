@@ -1,10 +1,13 @@
 #!/usr/bin/env python3
-"""Packs `amqp_engine`, by the standard library alone: as a wheel, and as an sdist. The same files give the same bytes, where zlib is the same.
+"""Packs `amqp_engine`, by the standard library alone: as a wheel, and as an sdist. The same files give the same bytes,
+where zlib is the same.
 
-    packing.py OUT LIBRARY      a wheel with this library in it, and an sdist, which has none; tools/build_wheel.sh calls it
+    packing.py OUT LIBRARY      a wheel with this library in it, and an sdist, which has none; tools/build_wheel.sh
+                                calls it
 
-It is what pip calls too (PEP 517, `pyproject.toml`), here and in an sdist: a wheel that pip makes has no library, and is for any platform.
-The platform of a wheel with a library is what `readelf` says of that: the oldest C library of GNU that has each symbol which it asks for.
+It is what pip calls too (PEP 517, `pyproject.toml`), here and in an sdist: a wheel that pip makes has no library, and
+is for any platform. The platform of a wheel with a library is what `readelf` says of that: the oldest C library of GNU
+that has each symbol which it asks for.
 """
 
 import base64
@@ -65,7 +68,9 @@ def build_sdist(sdist_directory, config_settings=None):
     files = {**package(), **licences(), "PKG-INFO": metadata()}
     files.update((name, (HERE / name).read_bytes()) for name in ("README.md", "packing.py", "pyproject.toml"))
     top, data = f"{NAME}-{VERSION}", io.BytesIO()
-    with GzipFile("", "wb", 9, data, mtime=0) as packed, tarfile.open(fileobj=packed, mode="w", format=tarfile.USTAR_FORMAT) as tar:
+    with GzipFile("", "wb", 9, data, mtime=0) as packed, tarfile.open(
+        fileobj=packed, mode="w", format=tarfile.USTAR_FORMAT
+    ) as tar:
         for name, content in sorted(files.items()):
             entry = tarfile.TarInfo(f"{top}/{name}")
             entry.size, entry.mtime = len(content), 315532800
@@ -84,7 +89,9 @@ def package():
 
 def licences():
     """They stand at the top of the repository, and in an sdist beside this file."""
-    return {name: next(it for it in (HERE / name, HERE.parents[1] / name) if it.exists()).read_bytes() for name in LICENCES}
+    return {
+        name: next(it for it in (HERE / name, HERE.parents[1] / name) if it.exists()).read_bytes() for name in LICENCES
+    }
 
 
 def metadata():
@@ -98,7 +105,12 @@ def wheel(folder, files, platforms):
     """A wheel of these files, for these platforms."""
     tags = [f"py3-none-{it}" for it in platforms]
     pure = str(platforms == ["any"]).lower()
-    about = ["Wheel-Version: 1.0", f"Generator: {NAME} packing", f"Root-Is-Purelib: {pure}", *(f"Tag: {it}" for it in tags)]
+    about = [
+        "Wheel-Version: 1.0",
+        f"Generator: {NAME} packing",
+        f"Root-Is-Purelib: {pure}",
+        *(f"Tag: {it}" for it in tags),
+    ]
     files = {**files, **{f"{INFO}/licenses/{name}": content for name, content in licences().items()}}
     files.update({f"{INFO}/METADATA": metadata(), f"{INFO}/WHEEL": ("\n".join(about) + "\n").encode()})
     rows = "".join(f"{name},{summed(content)},{len(content)}\n" for name, content in sorted(files.items()))
@@ -125,12 +137,16 @@ def written(folder, name, data):
 def platforms_of(library):
     """The platforms that have what a library asks for. Ends the program where none is known for it."""
     in_english = {**os.environ, "LC_ALL": "C"}
-    said = subprocess.run(["readelf", "-WhldV", library], check=True, stdout=subprocess.PIPE, env=in_english).stdout.decode()
+    said = subprocess.run(
+        ["readelf", "-WhldV", library], check=True, stdout=subprocess.PIPE, env=in_english
+    ).stdout.decode()
     needed = re.findall(r"\(NEEDED\).*\[(.*)\]", said)
     versions = re.findall(r"Name: (\S+)", said)
     known = [re.fullmatch(r"GLIBC_2\.(\d+)(?:\.\d+)?", it) for it in versions]
     if "X86-64" not in said or needed != ["libc.so.6"] or not all(known) or re.search(r"GNU_STACK.*RWE", said):
-        sys.exit(f"packing: {library} is no library for x86-64 that asks for the C library of GNU alone: {needed} {versions}")
+        sys.exit(
+            f"packing: {library} is no library for x86-64 that asks for the C library of GNU alone: {needed} {versions}"
+        )
     least = max([5, *(int(it[1]) for it in known)])
     # the older name of 2.17, for a pip that does not know names by number
     return [f"manylinux_2_{least}_x86_64"] + ["manylinux2014_x86_64"] * (least <= 17)

@@ -1,11 +1,11 @@
-/* A server of queues over libamqp1: epoll, any number of clients, and a queue for each address. What is sent to an address goes to who receives
-   from it.
+/* A server of queues over libamqp1: epoll, any number of clients, and a queue for each address. What is sent to an
+   address goes to who receives from it.
 
        amqp1_epoll PORT [CLIENTS]
 
-   It listens on the loopback, lets each client in by SASL's ANONYMOUS, and ends when so many clients have gone, if a number is given. Messages lie in
-   memory, without a bound, and go out settled: it shows how the library is called, and is no broker. Build it by `cc amqp1_epoll.c
-   amqp1_epoll_io.c $(pkg-config --cflags --libs amqp1)`. */
+   It listens on the loopback, lets each client in by SASL's ANONYMOUS, and ends when so many clients have gone, if a
+   number is given. Messages lie in memory, without a bound, and go out settled: it shows how the library is called, and
+   is no broker. Build it by `cc amqp1_epoll.c amqp1_epoll_io.c $(pkg-config --cflags --libs amqp1)`. */
 #include "amqp1_epoll.h"
 
 /* ---- queues */
@@ -190,10 +190,12 @@ static void send_message(struct peer *p, struct link *it, const struct message *
 static int is_ready(struct peer *p, struct link *it)
 {
     uint32_t credit = 0;
-    return it->queue->first && p->out_length < BACKLOG && amqp1_link_credit(&p->engine, it->session, it->output, &credit) == AMQP1_DONE && credit;
+    return it->queue->first && p->out_length < BACKLOG
+        && amqp1_link_credit(&p->engine, it->session, it->output, &credit) == AMQP1_DONE && credit;
 }
 
-/* Sends what waits for a link, as far as there is credit, and answers what its client asked for: that the rest of its credit be used up, or a flow. */
+/* Sends what waits for a link, as far as there is credit, and answers what its client asked for: that the rest of its
+   credit be used up, or a flow. */
 static void serve_link(struct peer *p, struct link *it)
 {
     while (is_ready(p, it)) {
@@ -235,7 +237,8 @@ static void begin(struct peer *p, const amqp1_record *record, const uint8_t *inp
         close_with(p, "amqp:resource-limit-exceeded");
 }
 
-/* A frame that was refused is answered as the standard says: by an End or a Close with the refusal's condition, if one is due. */
+/* A frame that was refused is answered as the standard says: by an End or a Close with the refusal's condition, if one
+   is due. */
 static void refused(struct peer *p, const amqp1_record *record, const uint8_t *input, size_t length)
 {
     char text[128] = { 0 };

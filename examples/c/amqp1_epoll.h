@@ -1,11 +1,13 @@
-/* What the two files of the server share: amqp1_epoll.c has queues, links and what clients say, amqp1_epoll_io.c the bytes. */
+/* What the two files of the server share: amqp1_epoll.c has queues, links and what clients say, amqp1_epoll_io.c the
+   bytes. */
 #ifndef AMQP1_EPOLL_H
 #define AMQP1_EPOLL_H
 
 #include <amqp1.h>
 #include <stdio.h>
 
-/* How long a name or an address may be, with its 0; how many bytes may wait for a client before it is sent no more, and is not read from. */
+/* How long a name or an address may be, with its 0; how many bytes may wait for a client before it is sent no more, and
+   is not read from. */
 enum { NAME = 256, BACKLOG = 1 << 20 };
 
 struct message {
@@ -21,7 +23,8 @@ struct queue {
     struct queue *next;
 };
 
-/* A link of a client, by this side's handle; the library counts its credit. `tag` numbers what is sent, and a message of which more comes is `partial`. */
+/* A link of a client, by this side's handle; the library counts its credit. `tag` numbers what is sent, and a message
+   of which more comes is `partial`. */
 struct link {
     struct link *next;
     int is_receiver;

@@ -1,10 +1,12 @@
-/* Many idle connections in one process, without a socket: how much memory each takes, and how much processor time an hour of them.
+/* Many idle connections in one process, without a socket: how much memory each takes, and how much processor time an
+   hour of them.
 
      amqp1_idle [CONNECTIONS [BUSY]]          100000 and 1000 where they are not said
 
-   The clock is turned by hand. Each connection says when it wants to be told the time (amqp1_tick); a heap has those times, the earliest first, and
-   the clock is turned to that. So nothing is done for a connection that wants nothing. Half of the peer's idle-time-out of 60 s is 30 s, so an hour
-   of an idle connection is 120 empty frames. The peers of BUSY of them send an empty frame each second beside that. */
+   The clock is turned by hand. Each connection says when it wants to be told the time (amqp1_tick); a heap has those
+   times, the earliest first, and the clock is turned to that. So nothing is done for a connection that wants nothing.
+   Half of the peer's idle-time-out of 60 s is 30 s, so an hour of an idle connection is 120 empty frames. The peers of
+   BUSY of them send an empty frame each second beside that. */
 
 #include <amqp1.h>
 #include <malloc.h>
@@ -134,14 +136,15 @@ int main(int argc, char **argv)
     MUST(count && engines && heap && wants && busy <= count);
     before = mallinfo2().uordblks;
     open_all();
-    printf("%zu connections, %.0f bytes each, and %zu in the caller's place\n", count, (double)(mallinfo2().uordblks - before) / (double)count,
-           sizeof *engines + sizeof *heap + sizeof *wants);
+    printf("%zu connections, %.0f bytes each, and %zu in the caller's place\n", count,
+           (double)(mallinfo2().uordblks - before) / (double)count, sizeof *engines + sizeof *heap + sizeof *wants);
     frames = 0, ticks = 0, at = seconds();
     turn(TIME_OUT, TIME_OUT + HOUR, 0);
     printf("an idle hour: %zu empty frames, %llu ticks, %.2f s of processor time\n", frames, ticks, seconds() - at);
     frames = 0, ticks = 0, took_in = 0, at = seconds();
     turn(TIME_OUT + HOUR, TIME_OUT + 2 * HOUR, busy);
-    printf("an hour with %zu busy peers: %zu empty frames, %llu ticks, %llu bytes taken, %.2f s\n", busy, frames, ticks, took_in, seconds() - at);
+    printf("an hour with %zu busy peers: %zu empty frames, %llu ticks, %llu bytes taken, %.2f s\n", busy, frames, ticks,
+        took_in, seconds() - at);
     for (i = 0; i < count; i++)
         amqp1_free(engines + i);
     printf("%zu bytes are left\n", mallinfo2().uordblks - before);

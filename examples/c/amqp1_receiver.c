@@ -1,10 +1,11 @@
-/* Receives messages from an address of a server, accepts each, and closes. It logs in by ANONYMOUS, by PLAIN, or, over TLS, by EXTERNAL. It gives credit
-   for a hundred, which the library renews, so more may come than are awaited: those are not accepted.
+/* Receives messages from an address of a server, accepts each, and closes. It logs in by ANONYMOUS, by PLAIN, or, over
+   TLS, by EXTERNAL. It gives credit for a hundred, which the library renews, so more may come than are awaited: those
+   are not accepted.
 
        amqp1_receiver HOST PORT ADDRESS [COUNT [USER PASSWORD | CA [CERTIFICATE KEY]]]
 
-   Build it by `cc amqp1_receiver.c amqp1_socket.c $(pkg-config --cflags --libs amqp1)`, for TLS with `-DAMQP1_TLS -lssl -lcrypto`. The status is 0
-   where all were accepted, and both sides have closed. */
+   Build it by `cc amqp1_receiver.c amqp1_socket.c $(pkg-config --cflags --libs amqp1)`, for TLS with `-DAMQP1_TLS -lssl
+   -lcrypto`. The status is 0 where all were accepted, and both sides have closed. */
 #include "amqp1_socket.h"
 
 static uint32_t received;

@@ -1,9 +1,10 @@
-/* Sends messages to an address of a broker as it gives credit, and then receives them back: both ends of a link in one client over libamqp1.
+/* Sends messages to an address of a broker as it gives credit, and then receives them back: both ends of a link in one
+   client over libamqp1.
 
        amqp1_send HOST PORT ADDRESS [COUNT [USER PASSWORD | CA [CERTIFICATE KEY]]]
 
-   Build it by `cc amqp1_send.c amqp1_socket.c $(pkg-config --cflags --libs amqp1)`, for TLS with `-DAMQP1_TLS -lssl -lcrypto`. The status is 0 where
-   all came back, and both sides have closed. */
+   Build it by `cc amqp1_send.c amqp1_socket.c $(pkg-config --cflags --libs amqp1)`, for TLS with `-DAMQP1_TLS -lssl
+   -lcrypto`. The status is 0 where all came back, and both sides have closed. */
 #include "amqp1_socket.h"
 
 /* How many messages were sent, settled by the peer, and received; and the link on which they are sent. */

@@ -1,9 +1,10 @@
-/* Sends messages to an address of a server as it gives credit, has each accepted, and closes. It logs in by ANONYMOUS, by PLAIN, or, over TLS, by EXTERNAL.
+/* Sends messages to an address of a server as it gives credit, has each accepted, and closes. It logs in by ANONYMOUS,
+   by PLAIN, or, over TLS, by EXTERNAL.
 
        amqp1_sender HOST PORT ADDRESS [COUNT [USER PASSWORD | CA [CERTIFICATE KEY]]]
 
-   Build it by `cc amqp1_sender.c amqp1_socket.c $(pkg-config --cflags --libs amqp1)`, for TLS with `-DAMQP1_TLS -lssl -lcrypto`. The status is 0
-   where all were accepted, and both sides have closed. */
+   Build it by `cc amqp1_sender.c amqp1_socket.c $(pkg-config --cflags --libs amqp1)`, for TLS with `-DAMQP1_TLS -lssl
+   -lcrypto`. The status is 0 where all were accepted, and both sides have closed. */
 #include "amqp1_socket.h"
 
 static uint32_t link_to, sent, accepted;

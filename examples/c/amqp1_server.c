@@ -1,6 +1,7 @@
-/* Serves clients, one after the other: lets each in by PLAIN, as one user, or by ANONYMOUS; accepts what it sends, and sends it messages as long as it
-   gives credit, on one link. `amqp1_server PORT CLIENTS USER PASSWORD [CERTIFICATE KEY]`, for TLS with the last two; the status is 0 where each was
-   let in, and has closed. Build it by `cc amqp1_server.c amqp1_serving.c amqp1_socket.c $(pkg-config --cflags --libs amqp1)`. */
+/* Serves clients, one after the other: lets each in by PLAIN, as one user, or by ANONYMOUS; accepts what it sends, and
+   sends it messages as long as it gives credit, on one link. `amqp1_server PORT CLIENTS USER PASSWORD [CERTIFICATE
+   KEY]`, for TLS with the last two; the status is 0 where each was let in, and has closed. Build it by `cc
+   amqp1_server.c amqp1_serving.c amqp1_socket.c $(pkg-config --cflags --libs amqp1)`. */
 #include "amqp1_socket.h"
 
 static uint32_t link_to = AMQP1_NONE, sent;
@@ -26,7 +27,8 @@ void take_record(const amqp1_record *record, const uint8_t *input)
         link_to = AMQP1_NONE;
     else if (event.kind == AMQP1_EVENT_FLOW && event.link == link_to)
         send_some(event.session, event.credit);
-    else if (event.kind == AMQP1_EVENT_PART && event.flags & AMQP1_EVENT_LAST && !(event.flags & AMQP1_EVENT_PRESETTLED))
+    else if (event.kind == AMQP1_EVENT_PART && event.flags & AMQP1_EVENT_LAST
+        && !(event.flags & AMQP1_EVENT_PRESETTLED))
         must("a disposition", amqp1_link_accept(&engine, &event));
 }
 

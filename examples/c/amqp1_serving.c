@@ -14,8 +14,10 @@ uint32_t answer_link(const amqp1_record *record, const uint8_t *input, uint32_t 
     string_of(amqp1_bytes_field(perf, AMQP1_ATTACH_NAME), name, sizeof name);
     string_of(amqp1_bytes_field(of, AMQP1_TERMINUS_ADDRESS), address, sizeof address);
     must("a link", amqp1_link_on(&engine, record->session, record->input, role, AMQP1_FIRST, name, &link));
-    must("an attach's text", amqp1_write_attach(text, sizeof text, &length, name, link, role, 2, AMQP1_FIRST, address, address, 0));
-    must("an attach", amqp1_link_attach(&engine, record->session, text, length, text, 0, credit - credit / 2, credit, &link));
+    must("an attach's text",
+        amqp1_write_attach(text, sizeof text, &length, name, link, role, 2, AMQP1_FIRST, address, address, 0));
+    must("an attach", amqp1_link_attach(&engine, record->session, text, length, text, 0, credit - credit / 2, credit,
+        &link));
     must("an attach's event", amqp1_link_wanted(&engine, record, link, &event));
     if (role == AMQP1_RECEIVER)
         must("credit", amqp1_link_respond(&engine, &event, 0));
@@ -36,8 +38,10 @@ void answer(const amqp1_record *record, const uint8_t *input, const amqp1_event 
     static uint32_t sessions;
     if (event->kind == AMQP1_EVENT_ENDED)
         drop_link(event);
-    if (record->kind == AMQP1_KIND_BEGIN_WANTED || record->kind == AMQP1_KIND_ENDED || record->kind == AMQP1_KIND_CLOSED) {
-        must("an answer", amqp1_answer(&engine, record, input, record->payload_at + record->payload, AMQP1_ANSWER_ALL, sessions));
+    if (record->kind == AMQP1_KIND_BEGIN_WANTED || record->kind == AMQP1_KIND_ENDED
+        || record->kind == AMQP1_KIND_CLOSED) {
+        must("an answer", amqp1_answer(&engine, record, input, record->payload_at + record->payload, AMQP1_ANSWER_ALL,
+            sessions));
         sessions += record->kind == AMQP1_KIND_BEGIN_WANTED;
     } else if (record->refusal) {
         unexpected(record, input);
@@ -51,7 +55,8 @@ static void let_in(const amqp1_record *record, const uint8_t *input, const char 
 {
     char plain[256];
     int length = snprintf(plain, sizeof plain, "%c%s%c%s", 0, user, 0, password);
-    int is_right = amqp1_mechanism_is(input, record, "ANONYMOUS") || is_text(amqp1_payload(input, record), plain, (size_t)length);
+    int is_right = amqp1_mechanism_is(input, record, "ANONYMOUS")
+        || is_text(amqp1_payload(input, record), plain, (size_t)length);
     must("a login", amqp1_login(&engine, is_right ? AMQP1_LOGIN_OK : AMQP1_LOGIN_AUTH));
     printf("%s by %.*s\n", is_right ? "let in" : "refused", (int)record->last, (const char *)input + record->first);
 }

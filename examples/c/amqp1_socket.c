@@ -61,7 +61,8 @@ void unexpected(const amqp1_record *record, const uint8_t *input)
     char why[256] = "";
     size_t length = 0;
     amqp1_bytes error;
-    if (record->refusal && amqp1_refusal_text(&engine, record->refusal, (uint8_t *)why, sizeof why, &length) != AMQP1_DONE)
+    if (record->refusal && amqp1_refusal_text(&engine, record->refusal, (uint8_t *)why, sizeof why,
+        &length) != AMQP1_DONE)
         length = 0;
     if (amqp1_has(record, AMQP1_FLAG_ERROR) &&
         amqp1_field(amqp1_performative(input, record), record->kind == AMQP1_KIND_DETACHED ? 2 : 0, &error)) {
@@ -132,7 +133,8 @@ static SSL_CTX *context_of(const SSL_METHOD *method, const char *certificate, co
     return context;
 }
 
-/* Speaks TLS with it, with this side's certificate and its key, or without: the server's certificate has to be for the host, and of the authority `ca`. */
+/* Speaks TLS with it, with this side's certificate and its key, or without: the server's certificate has to be for the
+   host, and of the authority `ca`. */
 static void tls_to(const char *host, const char *ca, const char *certificate, const char *key)
 {
     SSL_CTX *context = context_of(TLS_client_method(), certificate, key);
@@ -202,7 +204,8 @@ amqp1_event go_on(const amqp1_record *record, const uint8_t *input)
 {
     amqp1_event event;
     must("a record", amqp1_link_follow(&engine, record, &event));
-    if (record->refusal || amqp1_has(record, AMQP1_FLAG_ERROR) || record->kind == AMQP1_KIND_DETACHED || record->kind == AMQP1_KIND_ENDED)
+    if (record->refusal || amqp1_has(record, AMQP1_FLAG_ERROR) || record->kind == AMQP1_KIND_DETACHED
+        || record->kind == AMQP1_KIND_ENDED)
         unexpected(record, input);
     if (event.kind == AMQP1_EVENT_FAULT)
         fail("the peer did what it may not do on a link");
@@ -346,7 +349,8 @@ static void give(void)
     } while (length);
 }
 
-/* Takes what came, up to what is no whole thing; how many bytes. What is answered goes out before the next thing is taken. */
+/* Takes what came, up to what is no whole thing; how many bytes. What is answered goes out before the next thing is
+   taken. */
 static size_t take(const uint8_t *in, size_t length)
 {
     amqp1_record records[64];

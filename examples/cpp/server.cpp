@@ -1,7 +1,7 @@
 // A broker in memory: server PORT CLIENTS serves so many clients, one after the other, who are let in by ANONYMOUS.
-// What is sent to an address waits there for who receives and settles it; what is released, or left unsettled, goes back
-// to the end. The status is 0 where each client has closed. Build
-// it with serving.cpp and client.cpp; see serving.hpp.
+// What is sent to an address waits there for who receives and settles it; what is released, or left unsettled, goes
+// back to the end. The status is 0 where each client has closed. Build it with serving.cpp and client.cpp; see
+// serving.hpp.
 #include "serving.hpp"
 #include <deque>
 #include <map>

@@ -14,8 +14,8 @@ from pathlib import Path
 sys.path.insert(0, str(Path(__file__).resolve().parents[2] / "bindings" / "python"))
 
 from amqp_engine import (
-    ACCEPTED, RECEIVER, SENDER, Anonymous, Attach, Attached, Delivery, Detached, Disposed, Flowed, Open, Plain, Refusal, Transferred, body_of, connect, data,
-    source, target,
+    ACCEPTED, RECEIVER, SENDER, Anonymous, Attach, Attached, Delivery, Detached, Disposed, Flowed, Open, Plain, Refusal,
+    Transferred, body_of, connect, data, source, target,
 )  # fmt: skip
 from amqp_engine.driver import FORMATTED
 from amqp_engine.linking import EVENT_FAULT, EVENT_LAST, EVENT_SETTLED, WISH_GRANT
@@ -36,7 +36,9 @@ class Link:
 
     def sends(self, number, message):
         """Whether a message goes out: the link may have no credit for it."""
-        return not self.engine.link_deliver(Delivery(SESSION, self.output, number.to_bytes(4, "big"), data(message), FORMATTED)).refusal
+        return not self.engine.link_deliver(
+            Delivery(SESSION, self.output, number.to_bytes(4, "big"), data(message), FORMATTED)
+        ).refusal
 
     def left(self):
         """How many messages are left unsettled where the peer has gone, as text."""
@@ -50,7 +52,9 @@ async def next_event(connection, kind, link):
         if isinstance(event, Refusal):
             raise event
         if isinstance(event, Detached) and event.detach.error:
-            sys.exit(f"the peer detached: {event.detach.error.condition}: {event.detach.error.description}{link.left()}")
+            sys.exit(
+                f"the peer detached: {event.detach.error.condition}: {event.detach.error.description}{link.left()}"
+            )
         if event.link.kind == EVENT_FAULT:
             # the peer did what it may not do, as to send past its credit: it is told by a Detach
             link.engine.link_respond(event.link)
@@ -108,7 +112,9 @@ async def main():
     said = parser.parse_args()
     login = Plain(*said.sasl.split(":", 1)) if said.sasl else Anonymous()
     messages = [b"%08d" % at + bytes(max(0, said.size - 8)) for at in range(said.messages)]
-    async with connect(said.host, said.port, Open("send_receive", hostname=said.host, idle_time_out=60000), login=login) as connection:
+    async with connect(
+        said.host, said.port, Open("send_receive", hostname=said.host, idle_time_out=60000), login=login
+    ) as connection:
         connection.engine.open()
         await connection.session(SESSION)
         for link in (await send(connection, said.address, messages), await receive(connection, said.address, messages)):

@@ -1,8 +1,8 @@
 /* Readers of what records point to: the fields of performatives, and a message's sections. For amqp1.h.
 
-   A reader looks at bytes and copies none: what it gives points into them. The performative of a record was read by the engine before, so it is
-   well formed, but where the record is of AMQP1_KIND_REFUSED; a payload is what the peer sent. Each reader takes any bytes, and answers 0 where they
-   are no such thing. */
+   A reader looks at bytes and copies none: what it gives points into them. The performative of a record was read by the
+   engine before, so it is well formed, but where the record is of AMQP1_KIND_REFUSED; a payload is what the peer sent.
+   Each reader takes any bytes, and answers 0 where they are no such thing. */
 #ifndef AMQP1_READ_H
 #define AMQP1_READ_H
 
@@ -56,7 +56,8 @@ AMQP1_FUNCTION int amqp1_mechanism_is(const uint8_t *input, const amqp1_record *
     return record->last == length && !memcmp(input + record->first, name, length);
 }
 
-/* The initial response of a record of AMQP1_KIND_LOGIN_ASKED, or the response of AMQP1_KIND_RESPONDED. 0 where there is none. */
+/* The initial response of a record of AMQP1_KIND_LOGIN_ASKED, or the response of AMQP1_KIND_RESPONDED. 0 where there is
+   none. */
 AMQP1_FUNCTION int amqp1_response(const uint8_t *input, const amqp1_record *record, amqp1_bytes *response)
 {
     *response = amqp1_payload(input, record);
@@ -70,10 +71,11 @@ AMQP1_FUNCTION int amqp1_host(const uint8_t *input, const amqp1_record *record, 
     return record->count != AMQP1_NONE;
 }
 
-/* The three texts of a response of PLAIN (RFC 4616): as whom the client wants to act, which is empty where that is the user; the user; and the
-   password. They may be empty, and are any bytes but 0. 0 where it is no such response: it has not exactly two bytes 0. */
-AMQP1_FUNCTION int amqp1_plain_parts(const uint8_t *input, const amqp1_record *record, amqp1_bytes *authorization, amqp1_bytes *user,
-                                     amqp1_bytes *password)
+/* The three texts of a response of PLAIN (RFC 4616): as whom the client wants to act, which is empty where that is the
+   user; the user; and the password. They may be empty, and are any bytes but 0. 0 where it is no such response: it has
+   not exactly two bytes 0. */
+AMQP1_FUNCTION int amqp1_plain_parts(const uint8_t *input, const amqp1_record *record, amqp1_bytes *authorization,
+                                     amqp1_bytes *user, amqp1_bytes *password)
 {
     amqp1_bytes all = amqp1_payload(input, record);
     const uint8_t *first, *second, *end = all.at + all.length;
@@ -96,13 +98,17 @@ AMQP1_FUNCTION int amqp1_has(const amqp1_record *record, enum amqp1_flag flag)
 /* The name of a record's kind, as "Transfer"; "unknown" of one that is not named here. */
 AMQP1_FUNCTION const char *amqp1_kind_name(unsigned kind)
 {
-    static const char *const names[] = { "unknown",     "Opened",     "Begun",      "Attached",   "AttachWanted",    "Flow",       "Transfer",
-                                         "Disposition", "Detached",   "Ended",      "Closed",     "Refused",         "BeginWanted", "SaslHeader",
-                                         "AmqpHeader",  "MechanismChosen", "LoginAsked", "Challenged", "Responded", "LoggedIn",   "NotOpened" };
+    static const char *const names[] = { "unknown",     "Opened",     "Begun",      "Attached",   "AttachWanted",
+           "Flow",       "Transfer",
+                                         "Disposition", "Detached",   "Ended",      "Closed",     "Refused",
+                                                     "BeginWanted", "SaslHeader",
+                                         "AmqpHeader",  "MechanismChosen", "LoginAsked", "Challenged", "Responded",
+                                             "LoggedIn",   "NotOpened" };
     return kind < sizeof names / sizeof *names ? names[kind] : names[0];
 }
 
-/* How many of the bytes a value takes without its descriptor, by its code; 0 where there are too few. For use within this header. */
+/* How many of the bytes a value takes without its descriptor, by its code; 0 where there are too few. For use within
+   this header. */
 AMQP1_FUNCTION size_t amqp1_plain_length(amqp1_bytes from)
 {
     static const uint8_t fixed[6] = { 0, 1, 2, 4, 8, 16 };
@@ -140,7 +146,8 @@ AMQP1_FUNCTION int amqp1_read_number(amqp1_bytes value, uint64_t *number)
 {
     size_t at, length = amqp1_plain_length(value);
     unsigned code = length ? value.at[0] : 0;
-    if (code != 0x43 && code != 0x44 && code != 0x50 && code != 0x52 && code != 0x53 && code != 0x60 && code != 0x70 && code != 0x80)
+    if (code != 0x43 && code != 0x44 && code != 0x50 && code != 0x52 && code != 0x53 && code != 0x60 && code != 0x70
+        && code != 0x80)
         return 0;
     for (at = 1, *number = 0; at < length; at++)
         *number = *number << 8 | value.at[at];
@@ -201,7 +208,8 @@ AMQP1_FUNCTION int amqp1_list_of(amqp1_bytes list, amqp1_bytes *fields, uint32_t
     return 1;
 }
 
-/* The field at a place, counted from 0, of a performative or another described list. 0 where it is absent, which gives no bytes, or null. */
+/* The field at a place, counted from 0, of a performative or another described list. 0 where it is absent, which gives
+   no bytes, or null. */
 AMQP1_FUNCTION int amqp1_field(amqp1_bytes described, uint32_t place, amqp1_bytes *field)
 {
     uint64_t descriptor;
@@ -243,10 +251,12 @@ AMQP1_FUNCTION int amqp1_boolean_field(amqp1_bytes described, uint32_t place)
 AMQP1_FUNCTION amqp1_bytes amqp1_bytes_field(amqp1_bytes described, uint32_t place)
 {
     amqp1_bytes field, inside;
-    return amqp1_field(described, place, &field) && amqp1_read_bytes(field, &inside) ? inside : amqp1_bytes_at(described.at, 0);
+    return amqp1_field(described, place, &field)
+        && amqp1_read_bytes(field, &inside) ? inside : amqp1_bytes_at(described.at, 0);
 }
 
-/* The numbers by which performatives are described, and their fields' places (AMQP 1.0 part 2, section 2.7; part 3, section 3.5). */
+/* The numbers by which performatives are described, and their fields' places (AMQP 1.0 part 2, section 2.7; part 3,
+   section 3.5). */
 enum amqp1_places {
     AMQP1_OPEN_CODE = 0x10,
     AMQP1_OPEN_CONTAINER_ID = 0,
@@ -296,19 +306,21 @@ enum amqp1_places {
     AMQP1_ERROR_DESCRIPTION = 1
 };
 
-/* The number by which the performative of a frame is described. The frame has its size and its header. 0 of an empty frame, and of none. */
+/* The number by which the performative of a frame is described. The frame has its size and its header. 0 of an empty
+   frame, and of none. */
 AMQP1_FUNCTION uint64_t amqp1_frame_code(amqp1_bytes frame)
 {
     uint64_t code = 0;
     amqp1_bytes value;
     size_t head = frame.length < 8 ? 0 : 4 * (size_t)frame.at[4];
-    if (head < 8 || head > frame.length || !amqp1_read_described(amqp1_bytes_at(frame.at + head, frame.length - head), &code, &value))
+    if (head < 8 || head > frame.length
+        || !amqp1_read_described(amqp1_bytes_at(frame.at + head, frame.length - head), &code, &value))
         return 0;
     return code;
 }
 
-/* How many of the received bytes are whole frames, up to and with the first Begin or Attach; all of the bytes where no such frame stands in them.
-   amqp1_take stops there by itself (AMQP1_AGAIN), where the program is to answer. */
+/* How many of the received bytes are whole frames, up to and with the first Begin or Attach; all of the bytes where no
+   such frame stands in them. amqp1_take stops there by itself (AMQP1_AGAIN), where the program is to answer. */
 AMQP1_FUNCTION size_t amqp1_up_to_wanted(const uint8_t *input, size_t length)
 {
     size_t at = 0;
@@ -325,7 +337,8 @@ AMQP1_FUNCTION size_t amqp1_up_to_wanted(const uint8_t *input, size_t length)
     return length;
 }
 
-/* The bytes of a message's first data section (AMQP 1.0 part 3, section 3.2.6). 0 where it has none, or is no message. */
+/* The bytes of a message's first data section (AMQP 1.0 part 3, section 3.2.6). 0 where it has none, or is no
+   message. */
 AMQP1_FUNCTION int amqp1_read_data(amqp1_bytes message, amqp1_bytes *data)
 {
     while (message.length) {

@@ -12,10 +12,11 @@
 extern "C" {
 #endif
 
-/* Writes a line for each whole frame at the front of these bytes, as amqp_replay reads and prints lines: `word`, which is "recv" for what came and
-   "out" for what goes, a space, the frame without its size in hexadecimal digits, and a line feed. Give it the bytes that amqp1_take took, or that
-   amqp1_output gave. How many bytes the lines have; no line is written that does not fit, and no 0 at the end. Of the first line that does not fit
-   nothing is written, and of none after it: then the answer is over `room`. */
+/* Writes a line for each whole frame at the front of these bytes, as amqp_replay reads and prints lines: `word`, which
+   is "recv" for what came and "out" for what goes, a space, the frame without its size in hexadecimal digits, and a
+   line feed. Give it the bytes that amqp1_take took, or that amqp1_output gave. How many bytes the lines have; no line
+   is written that does not fit, and no 0 at the end. Of the first line that does not fit nothing is written, and of
+   none after it: then the answer is over `room`. */
 AMQP1_FUNCTION size_t amqp1_trace(const char *word, const uint8_t *bytes, size_t length, char *text, size_t room)
 {
     static const char digits[] = "0123456789abcdef";

@@ -333,13 +333,15 @@ AMQP1_FUNCTION AMQP1_CHECKED int32_t amqp1_write_data(uint8_t *out, size_t room,
     return amqp1_written(&text, written);
 }
 
-/* A server's answer to a session that the peer begins (section 2.5.1), by hand: amqp1_answer_begin does it in one call. The engine refuses a Begin
-   that answers none (AMQP1_KIND_BEGIN_WANTED, by AMQP1_WHY_BEGIN_WANTED). So the server begins a session of its own for it, and turns the two: the
-   frame of its own Begin, which amqp1_output gave, goes out with the peer's channel in it, and the frame of the peer's Begin goes in by amqp1_take
-   once more, with the channel of its own.
+/* A server's answer to a session that the peer begins (section 2.5.1), by hand: amqp1_answer_begin does it in one call.
+   The engine refuses a Begin that answers none (AMQP1_KIND_BEGIN_WANTED, by AMQP1_WHY_BEGIN_WANTED). So the server
+   begins a session of its own for it, and turns the two: the frame of its own Begin, which amqp1_output gave, goes out
+   with the peer's channel in it, and the frame of the peer's Begin goes in by amqp1_take once more, with the channel of
+   its own.
 
-   Writes the frame of a Begin, with its size and its header, as the answer to the one on the channel `remote_channel`. 0 where the bytes are no such
-   frame, where the Begin answers one already, or where it is more than `room`. It gains at most 18 bytes. */
+   Writes the frame of a Begin, with its size and its header, as the answer to the one on the channel `remote_channel`.
+   0 where the bytes are no such frame, where the Begin answers one already, or where it is more than `room`. It gains
+   at most 18 bytes. */
 AMQP1_FUNCTION size_t amqp1_turn_begin(uint8_t *out, size_t room, amqp1_bytes frame, uint16_t remote_channel)
 {
     amqp1_text text = amqp1_text_at(out, room);
@@ -349,7 +351,8 @@ AMQP1_FUNCTION size_t amqp1_turn_begin(uint8_t *out, size_t room, amqp1_bytes fr
     size_t written, at, head = frame.length < 8 ? 0 : 4 * (size_t)frame.at[4];
     if (amqp1_frame_code(frame) != AMQP1_BEGIN_CODE || amqp1_u32_of(frame.at) != frame.length)
         return 0;
-    if (!amqp1_read_described(amqp1_bytes_at(frame.at + head, frame.length - head), &code, &list) || !amqp1_list_of(list, &fields, &count) ||
+    if (!amqp1_read_described(amqp1_bytes_at(frame.at + head, frame.length - head), &code, &list)
+        || !amqp1_list_of(list, &fields, &count) ||
         !count || !fields.length || fields.at[0] != 0x40)
         return 0;
     amqp1_put_number(&text, 0);

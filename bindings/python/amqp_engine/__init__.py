@@ -1,4 +1,5 @@
-"""AMQP 1.0 for Python, by a proved engine: frames, connection and sessions (AMQP 1.0 part 2), over the library `libamqp1.so`.
+"""AMQP 1.0 for Python, by a proved engine: frames, connection and sessions (AMQP 1.0 part 2), over the library
+`libamqp1.so`.
 
     from amqp_engine import Engine, Open
 
@@ -8,8 +9,8 @@
     for event in engine.receive(socket.recv(65536)):
         print(event)
 
-`Engine` does no input or output itself; `connect` and `serve` are a transport by `asyncio`. Protocol headers and SASL are the library's: `opening` says how
-a stream begins.
+`Engine` does no input or output itself; `connect` and `serve` are a transport by `asyncio`. Protocol headers and SASL
+are the library's: `opening` says how a stream begins.
 """
 
 from . import blocking
@@ -20,8 +21,10 @@ from .connecting import connect
 from .driver import Delivery, Driver, LinkEvent, Record, Taken, Tick, Told, Unsettled
 from .ends import Link, LinkHandler
 from .engine import Engine
+
 from .errors import (
-    AlreadyClosed, AmqpError, ConnectionClosed, ConnectionLost, LinkClosed, LoginRefused, NotAccepted, SessionClosed, TimedOut,
+    AlreadyClosed, AmqpError, ConnectionClosed, ConnectionLost, LinkClosed, LoginRefused, NotAccepted, SessionClosed,
+    TimedOut,
 )  # fmt: skip
 from .events import AnyEvent, Attached, Detached, Disposed, Event, Flowed, Refusal, Transferred
 from .handed import IncomingDelivery, OutgoingDelivery
@@ -30,9 +33,10 @@ from .message import Message
 from .opening import Opening
 from .outcomes import Accepted, Modified, Outcome, Rejected, Released, Settled
 from .outgoing import OutgoingLink
+
 from .performatives import (
-    ACCEPTED, FIRST, MIXED, RECEIVER, RELEASED, SECOND, SENDER, SETTLED, UNSETTLED, Attach, Begin, Close, Detach, Disposition, End, Error, Flow, Open,
-    Transfer, address_of, body_of, data, rejected, source, target,
+    ACCEPTED, FIRST, MIXED, RECEIVER, RELEASED, SECOND, SENDER, SETTLED, UNSETTLED, Attach, Begin, Close, Detach,
+    Disposition, End, Error, Flow, Open, Transfer, address_of, body_of, data, rejected, source, target,
 )  # fmt: skip
 from .receiving import ReceivedDelivery, Receiver
 from .requesting import BadArgument, NoMemory
@@ -43,8 +47,10 @@ from .serving import Closed, Server, SessionBegan, SessionEnded
 from .sessions import Limits, ServedSession
 from .stream import PeerSilent, Waits
 from .transport import Connection, HeaderRefused, SessionRefused, condition_of
+
 from .values import (
-    Array, Byte, Char, Decimal, Described, Float, Int, Malformed, Map, Repeated, Short, Symbol, Timestamp, Ubyte, Uint, Ulong, Ushort,
+    Array, Byte, Char, Decimal, Described, Float, Int, Malformed, Map, Repeated, Short, Symbol, Timestamp, Ubyte, Uint,
+    Ulong, Ushort,
 )  # fmt: skip
 
 __version__ = "0.1.0"

@@ -1,5 +1,6 @@
-"""The driver: received bytes go in, records come out; requests go in, bytes to send come out. It does no input or output itself, and keeps no byte that
-was not taken. Of each frame there is a record of fixed size; what the frame says else stands in the bytes that were given, at the record's places.
+"""The driver: received bytes go in, records come out; requests go in, bytes to send come out. It does no input or
+output itself, and keeps no byte that was not taken. Of each frame there is a record of fixed size; what the frame says
+else stands in the bytes that were given, at the record's places.
 """
 
 from __future__ import annotations
@@ -15,16 +16,18 @@ from .events import Refusal
 from .linking import LinkEvent, Links, Told, Unsettled
 from .opening import Opening
 from .performatives import Open, Transfer
+
 from .records import (
-    ABORTED, ATTACHED, ATTACH_WANTED, AVAILABLE, BEGIN_WANTED, BEGUN, CLOSED, COUNTED, CREDITED, DETACHED, DISPOSITION, DRAIN, ECHO, ENDED, FLOW, FORMATTED,
-    FOR_GOOD, LINKED, MORE, NONE, NUMBERED, OF_RECEIVER, OPENED, RECORD, REFUSED, SETTLED, STATED, TAGGED, TRANSFER, WITH_ERROR, Delivery, Record, head_of,
-    tuple_of,
+    ABORTED, ATTACHED, ATTACH_WANTED, AVAILABLE, BEGIN_WANTED, BEGUN, CLOSED, COUNTED, CREDITED, DETACHED, DISPOSITION,
+    DRAIN, ECHO, ENDED, FLOW, FORMATTED, FOR_GOOD, LINKED, MORE, NONE, NUMBERED, OF_RECEIVER, OPENED, RECORD, REFUSED,
+    SETTLED, STATED, TAGGED, TRANSFER, WITH_ERROR, Delivery, Record, head_of, tuple_of,
 )  # fmt: skip
 from .requesting import REMOTE_OPEN, SEND, BadArgument, NoMemory, numbers
 
 _UNFIT, _REFUSAL_TEXT, _DISPOSE, _LOGIN, _CHALLENGE, _RESPOND, _IS_OVER = range(27, 34)
 
-#: What is due at a tick: nothing; an empty frame, which waits to be sent; the end of an opening that took too long; or of a peer that was silent
+#: What is due at a tick: nothing; an empty frame, which waits to be sent; the end of an opening that took too long; or
+#: of a peer that was silent
 DUE_NOTHING, DUE_BEAT, DUE_OPENING_LATE, DUE_PEER_SILENT = range(4)
 _NEVER = 2**64 - 1
 #: What `answer` gives: to a Begin, an End and a Close of the peer's, and to a frame that was refused
@@ -44,9 +47,10 @@ _HEADER = b"AMQP\0\1\0\0"
 
 
 class Taken(NamedTuple):
-    """What `Driver.take` took: how many bytes; the records of what they are; how many bytes the next frame has, as far as that is known; whether a size
-    stands there that no frame has: then a Close waits to be sent, for `amqp:connection:framing-error`; whether the connection is over; and whether
-    `login`, `challenge` or `respond` comes first."""
+    """What `Driver.take` took: how many bytes; the records of what they are; how many bytes the next frame has, as far
+    as that is known; whether a size stands there that no frame has: then a Close waits to be sent, for
+    `amqp:connection:framing-error`; whether the connection is over; and whether `login`, `challenge` or `respond` comes
+    first."""
 
     taken: int
     records: List[Record]
@@ -57,7 +61,8 @@ class Taken(NamedTuple):
 
 
 class Tick(NamedTuple):
-    """What was due, and is done (`DUE_BEAT` ..), and when the next tick is wanted, in the caller's milliseconds; `None` where none is."""
+    """What was due, and is done (`DUE_BEAT` ..), and when the next tick is wanted, in the caller's milliseconds; `None`
+    where none is."""
 
     due: int
     next: Optional[int]
@@ -68,7 +73,12 @@ def _delivery_of(session: int, transfer: Transfer, payload: bytes) -> Delivery:
     if (transfer.rcv_settle_mode, transfer.state) != (None, None) or transfer.resume or transfer.batchable:
         raise BadArgument("a delivery that is longer than a frame says no rcv_settle_mode, state, resume or batchable")
     format = transfer.message_format
-    says = ((SETTLED, transfer.settled), (MORE, transfer.more), (ABORTED, transfer.aborted), (FORMATTED, format is not None))
+    says = (
+        (SETTLED, transfer.settled),
+        (MORE, transfer.more),
+        (ABORTED, transfer.aborted),
+        (FORMATTED, format is not None),
+    )
     flags = NUMBERED | sum(flag for flag, is_so in says if is_so)
     return Delivery(session, transfer.handle, transfer.delivery_tag, payload, flags, format or 0)
 
@@ -104,14 +114,21 @@ class Driver(Links):
         time: int = 0,
         limit: Optional[int] = None,
     ) -> None:
-        """A driver that is to send this Open. `key`: 16 bytes that the peer cannot know, so that it cannot choose names and handles that collide; by
-        default they are random. `most`: how many records there are at once. `library`: the path of `libamqp1.so`.
+        """A driver that is to send this Open. `key`: 16 bytes that the peer cannot know, so that it cannot choose names
+        and handles that collide; by default they are random. `most`: how many records there are at once. `library`: the
+        path of `libamqp1.so`.
 
-        `opening` is how the stream begins, from its first byte on. Without one the driver begins behind the protocol headers, which are the caller's.
-        `time` is when it begins, in milliseconds, and `limit` how many of them headers, SASL and both Opens may take."""
+        `opening` is how the stream begins, from its first byte on. Without one the driver begins behind the protocol
+        headers, which are the caller's. `time` is when it begins, in milliseconds, and `limit` how many of them
+        headers, SASL and both Opens may take."""
         functions = lib.load(library)
         super().__init__(functions)
-        self._take, self._send, self._cut, self._tick = functions.amqp1_take, functions.amqp1_send, functions.amqp1_cut, functions.amqp1_tick
+        self._take, self._send, self._cut, self._tick = (
+            functions.amqp1_take,
+            functions.amqp1_send,
+            functions.amqp1_cut,
+            functions.amqp1_tick,
+        )
         self._answer, self._heard = functions.amqp1_answer, functions.amqp1_heard
         self._records = ctypes.create_string_buffer(most * RECORD.size)
         self._most, self._took, self._went, self._ticked = most, lib.Took(), lib.Went(), lib.Ticked()
@@ -130,11 +147,15 @@ class Driver(Links):
     def _make(self, new: Any, open: bytes, key: bytes, opening: Opening, time: int, limit: Optional[int]) -> None:
         host = None if opening.host is None else opening.host.encode()
         said = [(mechanism.encode("ascii"), response) for mechanism, response in opening.logins]
-        heads = (lib.LoginHead * len(said))(*(lib.LoginHead(len(it), NONE if response is None else len(response)) for it, response in said))
+        heads = (lib.LoginHead * len(said))(
+            *(lib.LoginHead(len(it), NONE if response is None else len(response)) for it, response in said)
+        )
         data = (host or b"") + b"".join(mechanism + (response or b"") for mechanism, response in said)
         own_host = NONE if host is None else len(host)
         how = lib.How((ctypes.c_uint8 * 16)(*key), time, NONE if limit is None else limit, opening.side, own_host)
-        self._judge(new(ctypes.byref(self._place), ctypes.byref(how), open, len(open), heads, len(said), data, len(data)))
+        self._judge(
+            new(ctypes.byref(self._place), ctypes.byref(how), open, len(open), heads, len(said), data, len(data))
+        )
 
     def _pass_headers(self) -> None:
         """The library's stream is given the peer's header, and its own is taken off."""
@@ -146,12 +167,14 @@ class Driver(Links):
     # ---- logins and the time
 
     def login(self, code: int, additional: Optional[bytes] = None) -> None:
-        """A server's answer to a client that asks to be let in: 0 lets it in, and nothing else does; after another code (1 where what it says does not let
-        it in, 2 where this side fails) the connection is over. Raises `Refusal` where no login is asked (`WrongTime`)."""
+        """A server's answer to a client that asks to be let in: 0 lets it in, and nothing else does; after another code
+        (1 where what it says does not let it in, 2 where this side fails) the connection is over. Raises `Refusal`
+        where no login is asked (`WrongTime`)."""
         self._ask(_LOGIN, bytes([code, additional is not None]) + (additional or b""))
 
     def challenge(self, challenge: bytes) -> None:
-        """A server's challenge to a client that asks to be let in: one response is awaited then. Raises `Refusal` as `login` does."""
+        """A server's challenge to a client that asks to be let in: one response is awaited then. Raises `Refusal` as
+        `login` does."""
         self._ask(_CHALLENGE, challenge)
 
     def respond(self, response: bytes) -> None:
@@ -159,34 +182,38 @@ class Driver(Links):
         self._ask(_RESPOND, response)
 
     def heard(self, now: int) -> None:
-        """Tells that bytes came at this time, in milliseconds, though none of them were given to `take` yet: the peer is not silent. `take` says it of what it
-        takes."""
+        """Tells that bytes came at this time, in milliseconds, though none of them were given to `take` yet: the peer
+        is not silent. `take` says it of what it takes."""
         self._judge(self._heard(ctypes.byref(self._place), now))
 
     def tick(self, now: int) -> Tick:
-        """Tells the time, in milliseconds, and does what is due: an empty frame, where nothing was sent for half of the peer's `idle_time_out`; a Close,
-        where nothing was taken for as long as this side's own; the end, where the opening took longer than its limit. To be called by `next`, and
-        after other calls, since these may move that."""
+        """Tells the time, in milliseconds, and does what is due: an empty frame, where nothing was sent for half of the
+        peer's `idle_time_out`; a Close, where nothing was taken for as long as this side's own; the end, where the
+        opening took longer than its limit. To be called by `next`, and after other calls, since these may move that."""
         self._judge(self._tick(ctypes.byref(self._place), now, ctypes.byref(self._ticked)))
         return Tick(self._ticked.due, None if self._ticked.next == _NEVER else self._ticked.next)
 
     @property
     def has_ended(self) -> bool:
-        """Whether the connection is over: nothing is taken and nothing may be asked for any more. What waits is still to be sent."""
+        """Whether the connection is over: nothing is taken and nothing may be asked for any more. What waits is still
+        to be sent."""
         return self._get(_IS_OVER) != b"\0"
 
     # ---- what comes
 
     def take(self, data: Union[bytes, bytearray], at: int = 0, now: int = 0) -> Taken:
-        """Takes what came at this time, from a place of the bytes on: a header, a frame of SASL, or whole frames, as long as there is room for their
-        records, up to one that is to be answered first: each runs once. Give what was not taken again, with what came since. Raises `NoMemory` where
-        memory was refused before the first one. Who calls no `tick` need tell no time."""
+        """Takes what came at this time, from a place of the bytes on: a header, a frame of SASL, or whole frames, as
+        long as there is room for their records, up to one that is to be answered first: each runs once. Give what was
+        not taken again, with what came since. Raises `NoMemory` where memory was refused before the first one. Who
+        calls no `tick` need tell no time."""
         took = self._took
         # what is held keeps a bytearray as long as it is
         start, held = (data, data) if not at and isinstance(data, bytes) else _place_of(data, at)
         status = self._take(self._here, now, start, len(data) - at, self._records, self._most, self._took_at)
         del held
-        if status not in (lib.FULL, lib.BAD_SIZE, lib.AGAIN, lib.WAITS, lib.OVER) and not (status == lib.NO_MEMORY and took.taken):
+        if status not in (lib.FULL, lib.BAD_SIZE, lib.AGAIN, lib.WAITS, lib.OVER) and not (
+            status == lib.NO_MEMORY and took.taken
+        ):
             self._judge(status)
         said = memoryview(self._records)[: took.written * RECORD.size]
         records = [tuple_of(Record, it) for it in RECORD.iter_unpack(said)]
@@ -195,9 +222,10 @@ class Driver(Links):
         return Taken(took.taken, records, took.wanted, status == lib.BAD_SIZE, status == lib.OVER, status == lib.WAITS)
 
     def answer(self, record: Record, data: bytes, number: int, answers: int = ANSWER_ALL) -> bool:
-        """Gives what a record asks for, of the answers that are named; `data` are the bytes that `take` was given for it. False where it asks for none of
-        them, or none is due. A Begin of the peer's is answered by a session of this number, which none had before. Raises as `answer_begin` and
-        `answer_end` do, and `Refusal` where the End or the Close for a refused frame is refused."""
+        """Gives what a record asks for, of the answers that are named; `data` are the bytes that `take` was given for
+        it. False where it asks for none of them, or none is due. A Begin of the peer's is answered by a session of this
+        number, which none had before. Raises as `answer_begin` and `answer_end` do, and `Refusal` where the End or the
+        Close for a refused frame is refused."""
         status = self._answer(ctypes.byref(self._place), RECORD.pack(*record), data, len(data), answers, number)
         if status == lib.NOTHING:
             return False
@@ -209,11 +237,13 @@ class Driver(Links):
         return True
 
     def refusal_of(self, number: int) -> Refusal:
-        """Why a frame or a transfer was refused, by its number: its name, and the condition that answers the frame, if any."""
+        """Why a frame or a transfer was refused, by its number: its name, and the condition that answers the frame, if
+        any."""
         return Refusal(*self._text_of(number)[:2])
 
     def answer_of(self, number: int) -> Optional[str]:
-        """How a refused frame is answered: by `end`, of its session, or by `close`, with the condition of `refusal_of`. `None`: it is not."""
+        """How a refused frame is answered: by `end`, of its session, or by `close`, with the condition of `refusal_of`.
+        `None`: it is not."""
         return self._text_of(number)[2]
 
     def _text_of(self, number: int) -> Tuple[str, Optional[str], Optional[str]]:
@@ -231,8 +261,9 @@ class Driver(Links):
     # ---- what goes
 
     def send(self, deliveries: Sequence[Delivery]) -> List[Tuple[int, int]]:
-        """Sends transfers, each of one frame, in order. Of each: the number of its delivery, if it is the first one of it, and 0; or 0, and the number of its
-        refusal. Where memory is refused the list is shorter: those that are left are to be sent again."""
+        """Sends transfers, each of one frame, in order. Of each: the number of its delivery, if it is the first one of
+        it, and 0; or 0, and the number of its refusal. Where memory is refused the list is shorter: those that are left
+        are to be sent again."""
         heads = b"".join(map(head_of, deliveries))
         data = b"".join(part for it in deliveries for part in (it.tag or b"", it.payload))
         count = len(deliveries)
@@ -248,8 +279,9 @@ class Driver(Links):
         return told
 
     def cut(self, delivery: Delivery) -> List[Delivery]:
-        """The parts of a transfer that may be longer than a frame, each of one frame. `send` takes them; one is to be sent only where the one before was
-        not refused. Raises `Refusal` where no frame has room for one (`TooLarge`), and where the tag has more than 32 bytes (`TagTooLong`)."""
+        """The parts of a transfer that may be longer than a frame, each of one frame. `send` takes them; one is to be
+        sent only where the one before was not refused. Raises `Refusal` where no frame has room for one (`TooLarge`),
+        and where the tag has more than 32 bytes (`TagTooLong`)."""
         parts: List[Delivery] = []
         head, tag, at = head_of(delivery), delivery.tag or b"", 0
         while True:
@@ -264,9 +296,10 @@ class Driver(Links):
             head, tag, at = rest, b"", at + payload
 
     def deliver(self, session: int, transfer: Transfer, payload: bytes) -> Optional[int]:
-        """A whole delivery is to be sent, in as many transfers as the peer's limit asks for. Each is one frame, so that both sides count as many against
-        the window. Answers what `transfer` does of the first one. Raises `BadArgument` where it is longer than a frame and says what no head does:
-        `rcv_settle_mode`, `state`, `resume`, `batchable`."""
+        """A whole delivery is to be sent, in as many transfers as the peer's limit asks for. Each is one frame, so that
+        both sides count as many against the window. Answers what `transfer` does of the first one. Raises `BadArgument`
+        where it is longer than a frame and says what no head does: `rcv_settle_mode`, `state`, `resume`,
+        `batchable`."""
         if len(payload) <= self.payload_room(transfer):
             return self.transfer(session, transfer, payload)
         number = None
@@ -279,8 +312,9 @@ class Driver(Links):
         return number
 
     def link_deliver(self, delivery: Delivery, given: int = 0) -> Told:
-        """A whole delivery is to be sent on a link, in as many transfers as the peer's limit asks for. What became of it, as of `link_send`: where its first
-        transfer is refused nothing changed; where a later one is, the delivery is under way, and a transfer with `ABORTED` ends it."""
+        """A whole delivery is to be sent on a link, in as many transfers as the peer's limit asks for. What became of
+        it, as of `link_send`: where its first transfer is refused nothing changed; where a later one is, the delivery
+        is under way, and a transfer with `ABORTED` ends it."""
         told = self.link_send(delivery, given)
         if told.refusal != WHY_PAYLOAD_TOO_LONG:
             return told
@@ -291,8 +325,8 @@ class Driver(Links):
         return told
 
     def dispose(self, session: int, role: bool, first: int, last: int, settled: bool, outcome: int = 0) -> None:
-        """A disposition is to be sent, of the deliveries from `first` to `last`. `role` is this side's; the outcome is 0 for none, or accepted, released
-        or modified."""
+        """A disposition is to be sent, of the deliveries from `first` to `last`. `role` is this side's; the outcome is
+        0 for none, or accepted, released or modified."""
         self._ask(_DISPOSE, numbers(session) + bytes([role]) + numbers(first, last) + bytes([settled, outcome]))
 
     def to_send(self) -> bytes:
@@ -319,7 +353,8 @@ class Driver(Links):
 
 
 __all__ = [
-    "ABORTED", "ATTACHED", "ATTACH_WANTED", "AVAILABLE", "BEGIN_WANTED", "BEGUN", "BadArgument", "CLOSED", "COUNTED", "CREDITED", "DETACHED", "DISPOSITION",
-    "DRAIN", "Delivery", "Driver", "ECHO", "ENDED", "FLOW", "FORMATTED", "FOR_GOOD", "LINKED", "LinkEvent", "MORE", "NONE", "NUMBERED", "NoMemory",
-    "OF_RECEIVER", "OPENED", "Opening", "REFUSED", "Record", "SETTLED", "STATED", "TAGGED", "TRANSFER", "Taken", "Tick", "Told", "Unsettled", "WITH_ERROR",
+    "ABORTED", "ATTACHED", "ATTACH_WANTED", "AVAILABLE", "BEGIN_WANTED", "BEGUN", "BadArgument", "CLOSED", "COUNTED",
+    "CREDITED", "DETACHED", "DISPOSITION", "DRAIN", "Delivery", "Driver", "ECHO", "ENDED", "FLOW", "FORMATTED",
+    "FOR_GOOD", "LINKED", "LinkEvent", "MORE", "NONE", "NUMBERED", "NoMemory", "OF_RECEIVER", "OPENED", "Opening",
+    "REFUSED", "Record", "SETTLED", "STATED", "TAGGED", "TRANSFER", "Taken", "Tick", "Told", "Unsettled", "WITH_ERROR",
 ]  # fmt: skip

@@ -1,4 +1,5 @@
-"""The engine: received bytes and requests go in, bytes to send and events come out. It does no input or output itself."""
+"""The engine: received bytes and requests go in, bytes to send and events come out. It does no input or output
+itself."""
 
 from __future__ import annotations
 
@@ -21,15 +22,23 @@ _T = TypeVar("_T")
 class Engine(Driver):
     """One side of one connection, whose frames come as events. It belongs to one thread at a time.
 
-    A request that the engine refuses raises `Refusal`; nothing that came before it is lost. What is to be sent is taken by `to_send`.
-    """
+    A request that the engine refuses raises `Refusal`; nothing that came before it is lost. What is to be sent is taken
+    by `to_send`."""
 
-    def __init__(self, open: Open, *, key: Optional[bytes] = None, library: Optional[str] = None, opening: Optional[Opening] = None) -> None:
-        """An engine that is to send this Open. `key`: 16 bytes that the peer cannot know, so that it cannot choose names and handles that collide;
-        by default they are random. `library`: the path of `libamqp1.so`. `opening` is how the stream begins, from its first byte on; without one the
-        engine begins behind the protocol headers."""
+    def __init__(
+        self,
+        open: Open,
+        *,
+        key: Optional[bytes] = None,
+        library: Optional[str] = None,
+        opening: Optional[Opening] = None,
+    ) -> None:
+        """An engine that is to send this Open. `key`: 16 bytes that the peer cannot know, so that it cannot choose
+        names and handles that collide; by default they are random. `library`: the path of `libamqp1.so`. `opening` is
+        how the stream begins, from its first byte on; without one the engine begins behind the protocol headers."""
         super().__init__(open, key=key, most=1, library=library, opening=opening)
-        # received bytes, of which those before `_at` were taken, and how many of the next ones are a frame, as far as that is known
+        # received bytes, of which those before `_at` were taken, and how many of the next ones are a frame, as far as
+        # that is known
         self._came, self._at, self._wanted = bytearray(), 0, 0
         # what is told of them, and nobody took yet
         self._told: Deque[Any] = deque()
@@ -60,15 +69,17 @@ class Engine(Driver):
     def receive(self, data: bytes) -> Iterator[Told]:
         """Takes received bytes, in any splitting, and gives what they bring, in order: events, and refusals of frames.
 
-        The engine is given the frames as the iterator goes on, so that what is asked in answer to an event comes before the frames after it. What an
-        iterator leaves, the next one begins with: nothing is lost, and `receive(b"")` goes on too. After the refusal `BadSize` the stream is of no use.
+        The engine is given the frames as the iterator goes on, so that what is asked in answer to an event comes before
+        the frames after it. What an iterator leaves, the next one begins with: nothing is lost, and `receive(b"")` goes
+        on too. After the refusal `BadSize` the stream is of no use.
 
-        Before the stream is open it gives headers and SASL too, as events of `opening`. After `LoginAsked`, `Challenged` and `Responded` nothing is
-        taken until `login`, `challenge` or `respond`."""
+        Before the stream is open it gives headers and SASL too, as events of `opening`. After `LoginAsked`,
+        `Challenged` and `Responded` nothing is taken until `login`, `challenge` or `respond`."""
         return self.receive_by(data, self.events_of)
 
     def receive_by(self, data: bytes, events_of: Callable[[Record], Sequence[_T]]) -> Iterator[Union[_T, Refusal]]:
-        """The same, but that `events_of` says what is told of a record. It may call `events_of` and `frame_of` of this engine, and give an answer."""
+        """The same, but that `events_of` says what is told of a record. It may call `events_of` and `frame_of` of this
+        engine, and give an answer."""
         del self._came[: self._at]
         self._at = 0
         if not self.is_broken:
@@ -121,7 +132,8 @@ class Engine(Driver):
         return told + self.told_unfit() if record.kind in (said.FLOW, said.DISPOSITION) else told
 
     def link_attach(self, session: int, attach: Attach, low: int = 0, high: int = 0, name: str = "") -> int:
-        """As `Links.link_attach`. From then on each event of the session says what it is to its links (`Event.link`)."""
+        """As `Links.link_attach`. From then on each event of the session says what it is to its links
+        (`Event.link`)."""
         link = super().link_attach(session, attach, low, high, name)
         self.linked.add(session)
         return link
@@ -147,7 +159,8 @@ class Engine(Driver):
         return [Refusal("TooLarge", count=self._told_unfit - before)] if self._told_unfit > before else []
 
     def _event_of(self, record: Record, body: bytes) -> Optional[Told]:
-        """The event of a record. Raises `Malformed` where the peer's values in it cannot be read: the engine looks at their sizes alone."""
+        """The event of a record. Raises `Malformed` where the peer's values in it cannot be read: the engine looks at
+        their sizes alone."""
         kind, flags = record.kind, record.flags
         link = (record.session, record.input, None if record.output == NONE else record.output)
         if kind == said.TRANSFER:
@@ -167,7 +180,8 @@ class Engine(Driver):
         return self._end_of(record, body)
 
     def _end_of(self, record: Record, body: bytes) -> Optional[Told]:
-        """An Open is kept. An End and a Close that the peer began, or that name an error, are told as refusals of what this side may ask for from then on."""
+        """An Open is kept. An End and a Close that the peer began, or that name an error, are told as refusals of what
+        this side may ask for from then on."""
         has_error = record.flags & said.WITH_ERROR
         if record.kind == said.OPENED:
             self._opened(body)

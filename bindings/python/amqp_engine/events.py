@@ -14,12 +14,14 @@ if TYPE_CHECKING:
 
 @dataclass
 class Event:
-    """What came for a link of this session. `input_handle` names the link in the peer's frames, `output_handle` in those of this side, where they are known."""
+    """What came for a link of this session. `input_handle` names the link in the peer's frames, `output_handle` in
+    those of this side, where they are known."""
 
     session: int
     input_handle: Optional[int]
     output_handle: Optional[int]
-    #: what it is to the links of its session, where `link_attach` has attached some: `link_respond` sends what they owe for it
+    #: what it is to the links of its session, where `link_attach` has attached some: `link_respond` sends what they owe
+    #: for it
     link: "Optional[LinkEvent]" = field(default=None, init=False, repr=False, compare=False)
 
 
@@ -47,8 +49,9 @@ class Transferred(Event):
 
 @dataclass
 class Disposed(Event):
-    """What the peer says of the deliveries from `first` to `last`, by their numbers modulo 2^32, whichever links they are of. `role` is the peer's:
-    `RECEIVER` speaks of what this side sent. There may be none of some of these numbers."""
+    """What the peer says of the deliveries from `first` to `last`, by their numbers modulo 2^32, whichever links they
+    are of. `role` is the peer's: `RECEIVER` speaks of what this side sent. There may be none of some of these
+    numbers."""
 
     role: bool
     settled: bool
@@ -61,7 +64,9 @@ class Disposed(Event):
         size = (self.last - self.first) % 2**32
         if size < len(numbers):
             return [it for it in ((self.first + at) % 2**32 for at in range(size + 1)) if it in numbers]
-        return sorted((it for it in numbers if (it - self.first) % 2**32 <= size), key=lambda it: (it - self.first) % 2**32)
+        return sorted(
+            (it for it in numbers if (it - self.first) % 2**32 <= size), key=lambda it: (it - self.first) % 2**32
+        )
 
 
 @dataclass
@@ -78,10 +83,11 @@ AnyEvent = Union[Attached, Flowed, Transferred, Disposed, Detached]
 
 @dataclass
 class Refusal(Exception):
-    """A frame or a request was refused by the engine: the refusal's name, and the condition that a peer is told, if there is one. Of `RemoteClosedWithError`
-    and `RemoteEndedWithError` condition and description are those that the peer sent. `Unreadable` is this package's: the engine took a frame, and values
-    in it are none that Python has, as text that is no UTF-8. `count` is how many the call refused, this one as the last of them: a flow of the peer's may let
-    out several frames that do not fit its limit."""
+    """A frame or a request was refused by the engine: the refusal's name, and the condition that a peer is told, if
+    there is one. Of `RemoteClosedWithError` and `RemoteEndedWithError` condition and description are those that the
+    peer sent. `Unreadable` is this package's: the engine took a frame, and values in it are none that Python has, as
+    text that is no UTF-8. `count` is how many the call refused, this one as the last of them: a flow of the peer's may
+    let out several frames that do not fit its limit."""
 
     name: str
     condition: Optional[str] = None

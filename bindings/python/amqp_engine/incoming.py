@@ -9,6 +9,7 @@ from typing import TYPE_CHECKING, Any, AsyncIterator, Deque, Dict, List, Optiona
 from .driver import FORMATTED, TAGGED, LinkEvent, Record
 from .ends import Link, LinkHandler
 from .handed import IncomingDelivery, OutgoingDelivery
+
 from .linking import (
     EVENT_ABORTED, EVENT_FIRST, EVENT_FLOW, EVENT_GIVEN, EVENT_LAST, EVENT_PART, EVENT_PRESETTLED, WISH_GRANT,
 )  # fmt: skip

@@ -99,7 +99,8 @@ class Described(NamedTuple):
 
 
 class Repeated(Sequence[Any]):
-    """One item so many times, as a sequence. An array of nulls, of empty lists, .. says in a few bytes that it has four thousand million of them."""
+    """One item so many times, as a sequence. An array of nulls, of empty lists, .. says in a few bytes that it has four
+    thousand million of them."""
 
     __slots__ = ("item", "count")
 
@@ -134,8 +135,9 @@ class Repeated(Sequence[Any]):
 
 
 class Array:
-    """Items of one type. `constructor` is what stood before them where the array was read: a code, and, where the items are described, the descriptor
-    before it. With it the array is written as it came; without, as wide as the type of its items is. Arrays of equal items are equal."""
+    """Items of one type. `constructor` is what stood before them where the array was read: a code, and, where the items
+    are described, the descriptor before it. With it the array is written as it came; without, as wide as the type of
+    its items is. Arrays of equal items are equal."""
 
     __slots__ = ("items", "constructor")
 

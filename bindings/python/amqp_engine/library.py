@@ -1,7 +1,7 @@
 """The library `libamqp1.so`, by `ctypes`: its functions, and where the file is looked for.
 
-It is the one at the path that a program gives; else at that of the environment's `AMQP_LIBRARY`; else `libamqp1.so.1` in the package's folder, where a wheel
-puts it; else that which the system finds. An sdist has none.
+It is the one at the path that a program gives; else at that of the environment's `AMQP_LIBRARY`; else `libamqp1.so.1`
+in the package's folder, where a wheel puts it; else that which the system finds. An sdist has none.
 """
 
 from __future__ import annotations
@@ -96,7 +96,13 @@ class Text(ctypes.Structure):
     ]
 
 
-_NUMBER, _GIVEN, _SIZE, _BYTES, _AT = ctypes.c_uint32, ctypes.c_uint64, ctypes.c_size_t, ctypes.c_char_p, ctypes.c_void_p
+_NUMBER, _GIVEN, _SIZE, _BYTES, _AT = (
+    ctypes.c_uint32,
+    ctypes.c_uint64,
+    ctypes.c_size_t,
+    ctypes.c_char_p,
+    ctypes.c_void_p,
+)
 #: What the functions of links take behind the place: `include/amqp1/links.h` has each
 _OF_LINKS: Dict[str, Tuple[Any, ...]] = {
     "attach": (_NUMBER, _BYTES, _SIZE, _BYTES, _SIZE, _NUMBER, _NUMBER, ctypes.POINTER(_NUMBER)),
@@ -144,11 +150,14 @@ def _found(named: str) -> ctypes.CDLL:
     try:
         return ctypes.CDLL(named)
     except OSError as error:
-        raise OSError(f"{error}; AMQP_LIBRARY may name the file {_FILE}, which tools/build_c.sh makes and the wheel for Linux has") from None
+        raise OSError(
+            f"{error}; AMQP_LIBRARY may name the file {_FILE}, which tools/build_c.sh makes and the wheel for Linux has"
+        ) from None
 
 
 def load(path: Optional[str] = None) -> ctypes.CDLL:
-    """The library: of this path; else of `AMQP_LIBRARY`; else in this package's folder; else where the system looks. Raises `OSError` where there is none."""
+    """The library: of this path; else of `AMQP_LIBRARY`; else in this package's folder; else where the system looks.
+    Raises `OSError` where there is none."""
     named = _named(path)
     if named not in _LOADED:
         _LOADED[named] = _declared(_found(named))

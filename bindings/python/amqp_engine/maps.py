@@ -9,11 +9,12 @@ from .writing import write
 
 
 class Map(Mapping[Any, Any]):
-    """A map that was read: its `pairs`, in their order, and a mapping over them. What is to be written may be a `dict` too.
+    """A map that was read: its `pairs`, in their order, and a mapping over them. What is to be written may be a `dict`
+    too.
 
-    `[]` finds the key of the same type, else one that is equal (a `Symbol` by the `str`, a `Uint` by the `int`). It is no `dict`, since a peer that chooses
-    numbers or uuids as keys can make a `dict` take time by the square of their count; and since a `dict` has one key for a string and its symbol.
-    """
+    `[]` finds the key of the same type, else one that is equal (a `Symbol` by the `str`, a `Uint` by the `int`). It is
+    no `dict`, since a peer that chooses numbers or uuids as keys can make a `dict` take time by the square of their
+    count; and since a `dict` has one key for a string and its symbol."""
 
     __slots__ = ("pairs", "_found")
 
@@ -66,8 +67,8 @@ def _places(pairs: List[Tuple[Any, Any]]) -> Dict[Any, int]:
 
 
 def _name_of(key: Any) -> Any:
-    """What a key is found by: text and bytes by themselves, all else by text or bytes that stand for it. These Python hashes under a random key, so that
-    no peer can choose them to collide; numbers it does not."""
+    """What a key is found by: text and bytes by themselves, all else by text or bytes that stand for it. These Python
+    hashes under a random key, so that no peer can choose them to collide; numbers it does not."""
     if isinstance(key, str):
         return str(key)
     if isinstance(key, bytes):

@@ -1,4 +1,5 @@
-"""How a stream begins, before its first frame: protocol headers and SASL, of either side (AMQP 1.0 part 2, section 2.2; part 5, section 5.3)."""
+"""How a stream begins, before its first frame: protocol headers and SASL, of either side (AMQP 1.0 part 2, section 2.2;
+part 5, section 5.3)."""
 
 from __future__ import annotations
 
@@ -16,15 +17,25 @@ WITHOUT_SASL, SASL_CLIENT, SASL_SERVER = range(3)
     SASL_HEADER, AMQP_HEADER, MECHANISM_CHOSEN, LOGIN_ASKED, CHALLENGED, RESPONDED, LOGGED_IN, NOT_OPENED,
 ) = range(13, 21)  # fmt: skip
 #: Why a stream is not opened; `enum amqp1_why` has each
-NO_MECHANISM, NOT_OFFERED, LOGIN_REFUSED, OTHER_PROTOCOL, OTHER_HEADER, NOT_AMQP, MALFORMED_SASL, UNEXPECTED_SASL = range(101, 109)
+(
+    NO_MECHANISM,
+    NOT_OFFERED,
+    LOGIN_REFUSED,
+    OTHER_PROTOCOL,
+    OTHER_HEADER,
+    NOT_AMQP,
+    MALFORMED_SASL,
+    UNEXPECTED_SASL,
+) = range(101, 109)
 
 #: No place
 _NONE = 0xFFFFFFFF
 
 
 class Opening(NamedTuple):
-    """How a stream begins: on which side of SASL, if any. `logins` are a client's, the one that it likes best first, each a mechanism and what is said
-    first, if anything; of a server they are the mechanisms that it offers. `host` is the one that a client asks for."""
+    """How a stream begins: on which side of SASL, if any. `logins` are a client's, the one that it likes best first,
+    each a mechanism and what is said first, if anything; of a server they are the mechanisms that it offers. `host` is
+    the one that a client asks for."""
 
     side: int = WITHOUT_SASL
     logins: Sequence[Tuple[str, Optional[bytes]]] = ()
@@ -77,8 +88,9 @@ class LoggedIn:
 
 @dataclass
 class NotOpened:
-    """The stream is not opened, and is over. `why` is the number of the reason, and `name` its name; `outcome` is what a server's outcome says, and
-    `said` are its additional data, or the mechanisms of a server that offers none of this side's."""
+    """The stream is not opened, and is over. `why` is the number of the reason, and `name` its name; `outcome` is what
+    a server's outcome says, and `said` are its additional data, or the mechanisms of a server that offers none of this
+    side's."""
 
     why: int
     name: str
@@ -93,7 +105,9 @@ OpeningEvent = Union[HeaderCame, MechanismChosen, LoginAsked, Challenged, Respon
 def places_of(record: "Record") -> List[str]:
     """Which fields of a record of the opening are places in the bytes that were given."""
     asked = record.kind == LOGIN_ASKED
-    names = ("payload_at",) + (("first",) if asked or record.refusal == NOT_OFFERED else ()) + (("count",) if asked else ())
+    names = (
+        ("payload_at",) + (("first",) if asked or record.refusal == NOT_OFFERED else ()) + (("count",) if asked else ())
+    )
     return [name for name in names if getattr(record, name) != _NONE]
 
 

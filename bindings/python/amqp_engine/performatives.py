@@ -1,8 +1,8 @@
 """The performatives of AMQP 1.0 as data classes (part 2, section 2.7), and the error (section 2.8.14).
 
-A field that is `None` is null: the standard's default holds then. Texts, numbers and flags are plain Python values, and are written as the standard's
-type of the field. A source, a target and the state of a delivery are any `values.Described`; properties are a `dict`, and of a performative that came
-a `values.Map`.
+A field that is `None` is null: the standard's default holds then. Texts, numbers and flags are plain Python values, and
+are written as the standard's type of the field. A source, a target and the state of a delivery are any
+`values.Described`; properties are a `dict`, and of a performative that came a `values.Map`.
 """
 
 from __future__ import annotations
@@ -21,7 +21,8 @@ SENDER, RECEIVER = False, True
 #: Settle modes of a sender: unsettled, settled, mixed; of a receiver: first, second
 UNSETTLED, SETTLED, MIXED = 0, 1, 2
 FIRST, SECOND = 0, 1
-#: The longest frame that this side takes, where an Open does not say another; `max_frame_size=2**32 - 1` asks for any length
+#: The longest frame that this side takes, where an Open does not say another; `max_frame_size=2**32 - 1` asks for any
+#: length
 MAX_FRAME_SIZE = 1048576
 
 _P = TypeVar("_P", bound="Performative")
@@ -54,14 +55,14 @@ def _identity(value: Any) -> Any:
 
 
 _WRITTEN: Dict[str, Callable[[Any], Any]] = {
-    "string": str, "symbol": Symbol, "symbols": symbols, "ulong": Ulong, "uint": Uint, "ushort": Ushort, "ubyte": Ubyte, "boolean": bool,
-    "binary": bytes, "fields": lambda it: it, "value": lambda it: it, "error": lambda it: it.described(),
-    "timestamp": _moment, "identity": _identity,
+    "string": str, "symbol": Symbol, "symbols": symbols, "ulong": Ulong, "uint": Uint, "ushort": Ushort, "ubyte": Ubyte,
+    "boolean": bool, "binary": bytes, "fields": lambda it: it, "value": lambda it: it,
+    "error": lambda it: it.described(), "timestamp": _moment, "identity": _identity,
 }  # fmt: skip
 _READ: Dict[str, Tuple[type, ...]] = {
-    "string": (str,), "symbol": (Symbol,), "symbols": (Symbol, Array), "ulong": (Ulong,), "uint": (Uint,), "ushort": (Ushort,), "ubyte": (Ubyte,),
-    "boolean": (bool,), "binary": (bytes,), "fields": (Map,), "value": (object,), "error": (Described,),
-    "timestamp": (Timestamp,), "identity": (Ulong, UUID, bytes, str),
+    "string": (str,), "symbol": (Symbol,), "symbols": (Symbol, Array), "ulong": (Ulong,), "uint": (Uint,),
+    "ushort": (Ushort,), "ubyte": (Ubyte,), "boolean": (bool,), "binary": (bytes,), "fields": (Map,),
+    "value": (object,), "error": (Described,), "timestamp": (Timestamp,), "identity": (Ulong, UUID, bytes, str),
 }  # fmt: skip
 
 
@@ -93,7 +94,11 @@ class Performative:
     @classmethod
     def of(cls: Type[_P], value: Any) -> _P:
         """The performative that a described list is."""
-        if not isinstance(value, Described) or value.descriptor not in (cls.CODE, f"amqp:{cls.__name__.lower()}:list") or not isinstance(value.value, list):
+        if (
+            not isinstance(value, Described)
+            or value.descriptor not in (cls.CODE, f"amqp:{cls.__name__.lower()}:list")
+            or not isinstance(value.value, list)
+        ):
             raise Malformed(f"no {cls.__name__}")
         names = names_of(cls)
         if len(value.value) > len(names):
@@ -126,7 +131,8 @@ def _checked(cls: type, name: str, kind: str, item: Any) -> Any:
 
 
 def symbols_of(item: Any) -> Any:
-    """The symbols of an array as a list; one that stands alone as it is. Raises `Malformed` where it is another array."""
+    """The symbols of an array as a list; one that stands alone as it is. Raises `Malformed` where it is another
+    array."""
     if not isinstance(item, Array) or not len(item.items):
         return [] if isinstance(item, Array) else item
     # what is no list is one item without bytes, thousands of millions of times perhaps
@@ -150,7 +156,8 @@ class Error(Performative):
 
 @dataclass
 class Open(Performative):
-    """Begins a connection. This side takes frames of a million bytes, so that a peer cannot have it keep more of one; `None` would stand for 2^32-1."""
+    """Begins a connection. This side takes frames of a million bytes, so that a peer cannot have it keep more of one;
+    `None` would stand for 2^32-1."""
 
     container_id: str
     hostname: Optional[str] = None
@@ -164,7 +171,18 @@ class Open(Performative):
     properties: Optional[Mapping[Any, Any]] = None
 
     CODE: ClassVar[int] = 0x10
-    TYPES: ClassVar[Tuple[str, ...]] = ("string", "string", "uint", "ushort", "uint", "symbols", "symbols", "symbols", "symbols", "fields")
+    TYPES: ClassVar[Tuple[str, ...]] = (
+        "string",
+        "string",
+        "uint",
+        "ushort",
+        "uint",
+        "symbols",
+        "symbols",
+        "symbols",
+        "symbols",
+        "fields",
+    )
     MANDATORY: ClassVar[Tuple[str, ...]] = ("container_id",)
 
 
@@ -207,7 +225,8 @@ class Attach(Performative):
 
     CODE: ClassVar[int] = 0x12
     TYPES: ClassVar[Tuple[str, ...]] = (
-        "string", "uint", "boolean", "ubyte", "ubyte", "value", "value", "fields", "boolean", "uint", "ulong", "symbols", "symbols", "fields",
+        "string", "uint", "boolean", "ubyte", "ubyte", "value", "value", "fields", "boolean", "uint", "ulong",
+        "symbols", "symbols", "fields",
     )  # fmt: skip
     MANDATORY: ClassVar[Tuple[str, ...]] = ("name", "handle", "role")
 
@@ -319,7 +338,12 @@ def target(address: Optional[str] = None) -> Described:
 
 def address_of(terminus: Any) -> Optional[str]:
     """The address of a source or a target, if it has one."""
-    if isinstance(terminus, Described) and isinstance(terminus.value, list) and terminus.value and isinstance(terminus.value[0], str):
+    if (
+        isinstance(terminus, Described)
+        and isinstance(terminus.value, list)
+        and terminus.value
+        and isinstance(terminus.value[0], str)
+    ):
         return terminus.value[0]
     return None
 

@@ -1,4 +1,5 @@
-"""Bytes as values (AMQP 1.0 part 1, section 1.6). What is read takes time and memory in proportion to its bytes, whatever they say."""
+"""Bytes as values (AMQP 1.0 part 1, section 1.6). What is read takes time and memory in proportion to its bytes,
+whatever they say."""
 
 from __future__ import annotations
 
@@ -7,7 +8,8 @@ import uuid
 from typing import Any, Callable, Dict, List, Tuple, TypeVar
 
 from .kinds import (
-    DEEPEST, Array, Byte, Char, Decimal, Described, Float, Int, Malformed, Repeated, Short, Symbol, Timestamp, Ubyte, Uint, Ulong, Ushort,
+    DEEPEST, Array, Byte, Char, Decimal, Described, Float, Int, Malformed, Repeated, Short, Symbol, Timestamp, Ubyte,
+    Uint, Ulong, Ushort,
 )  # fmt: skip
 from .maps import Map
 
@@ -49,14 +51,19 @@ _FIXED: Dict[int, Tuple[int, Callable[[bytes], Any]]] = {
 }  # fmt: skip
 _SIZED = (0xA0, 0xA1, 0xA3, 0xC0, 0xC1, 0xE0)
 _NONE, _ENDS = 256, "the bytes end inside a value"
-# by code, and last for none: how many bytes follow; how wide the size is that does, below 0; `_NONE` where no type has it
+# by code, and last for none: how many bytes follow; how wide the size is that does, below 0; `_NONE` where no type has
+# it
 _FOLLOWS = [_NONE] * 257
 _FOLLOWS[0] = 0
 for _code, (_count, _) in _FIXED.items():
     _FOLLOWS[_code] = _count
 for _code in _SIZED:
     _FOLLOWS[_code], _FOLLOWS[_code | 0x10] = -1, -4
-_VARIABLE: Dict[int, Callable[[bytes], Any]] = {0xA0: bytes, 0xA1: lambda of: of.decode(), 0xA3: lambda of: Symbol(of.decode("ascii"))}
+_VARIABLE: Dict[int, Callable[[bytes], Any]] = {
+    0xA0: bytes,
+    0xA1: lambda of: of.decode(),
+    0xA3: lambda of: Symbol(of.decode("ascii")),
+}
 
 
 def read(of: bytes, at: int = 0) -> Tuple[Any, int]:
@@ -68,7 +75,8 @@ def read(of: bytes, at: int = 0) -> Tuple[Any, int]:
 
 
 def end_of(of: bytes, at: int = 0) -> int:
-    """Where the value at `at` ends, of which the sizes alone are looked at. Raises `Malformed` where none stands there."""
+    """Where the value at `at` ends, of which the sizes alone are looked at. Raises `Malformed` where none stands
+    there."""
     end, left = len(of), 1
     while left:
         code = of[at] if at < end else _NONE
@@ -179,7 +187,9 @@ def _array(of: bytes, at: int, end: int, count: int, depth: int) -> Array:
     return Array(items, of[start:at])
 
 
-def _of_code(code: int, of: bytes, at: int, end: int, count: int, depth: int, descriptors: List[Any]) -> Tuple[Any, int]:
+def _of_code(
+    code: int, of: bytes, at: int, end: int, count: int, depth: int, descriptors: List[Any]
+) -> Tuple[Any, int]:
     """The items of an array, and where its constructor ends. Those that take no bytes are one, so many times."""
     constructed = at
     if code in _FIXED and _FIXED[code][0] == 0:

@@ -9,6 +9,7 @@ from typing import TYPE_CHECKING, Any, AsyncIterator, Callable, Deque, Dict, Lis
 
 from .errors import AlreadyClosed, AmqpError, TimedOut
 from .line import Line, Session
+
 from .linking import (
     EVENT_ABORTED, EVENT_FIRST, EVENT_FLOW, EVENT_GIVEN, EVENT_LAST, EVENT_PART, EVENT_PRESETTLED, WISH_DRAIN,
     WISH_GRANT, LinkEvent,

@@ -14,7 +14,8 @@ from .requesting import BadArgument
 
 #: What a frame says besides, and what a transfer is to say; the comments of `include/amqp1/records.h` have each
 (
-    NUMBERED, SETTLED, MORE, ABORTED, OF_RECEIVER, STATED, DRAIN, ECHO, WITH_ERROR, FOR_GOOD, CREDITED, COUNTED, LINKED, FORMATTED, TAGGED, AVAILABLE,
+    NUMBERED, SETTLED, MORE, ABORTED, OF_RECEIVER, STATED, DRAIN, ECHO, WITH_ERROR, FOR_GOOD, CREDITED, COUNTED, LINKED,
+    FORMATTED, TAGGED, AVAILABLE,
 ) = (1 << at for at in range(16))  # fmt: skip
 
 #: Makes a named tuple of what `struct` has unpacked, without the call of Python's that its own constructors make
@@ -30,11 +31,12 @@ HEAD = struct.Struct("=4I2H")
 
 
 class Record(NamedTuple):
-    """What one received frame says. `output` is this side's handle of its link, `input` the peer's; `at`, `size`, `payload_at` and `payload` are places in
-    the bytes that were given, and how many.
+    """What one received frame says. `output` is this side's handle of its link, `input` the peer's; `at`, `size`,
+    `payload_at` and `payload` are places in the bytes that were given, and how many.
 
-    Of an attach `outcome` says which termini it has: 0 none, 1 a source, 2 a target, 3 both. Its max-message-size is `last << 32 | first`, 0 where there
-    is no limit; `credit` is its snd-settle-mode, and `available` its rcv-settle-mode."""
+    Of an attach `outcome` says which termini it has: 0 none, 1 a source, 2 a target, 3 both. Its max-message-size is
+    `last << 32 | first`, 0 where there is no limit; `credit` is its snd-settle-mode, and `available` its
+    rcv-settle-mode."""
 
     kind: int
     outcome: int
@@ -60,7 +62,8 @@ class Record(NamedTuple):
 
 
 class Delivery(NamedTuple):
-    """A transfer that is to be sent: on the link that has this handle of this side's, as `link` or `link_on` gave it."""
+    """A transfer that is to be sent: on the link that has this handle of this side's, as `link` or `link_on` gave
+    it."""
 
     session: int
     link: int

@@ -12,7 +12,8 @@ from .performatives import Attach, Begin, Detach, Disposition, Error, Flow, Tran
 
 #: The operations of the library by their numbers; `enum amqp1_operation` of `include/amqp1/exports.h` has each
 (
-    _OPEN, _CLOSE, _BEGIN, _END, _RELEASE, _FORGET, _LINK, _LINK_ON, _ATTACH, _DETACH, _FLOW, _TRANSFER, _DISPOSITION, _SETTLE, SEND,
+    _OPEN, _CLOSE, _BEGIN, _END, _RELEASE, _FORGET, _LINK, _LINK_ON, _ATTACH, _DETACH, _FLOW, _TRANSFER, _DISPOSITION,
+    _SETTLE, SEND,
 ) = range(2, 17)  # fmt: skip
 _REFUSAL, REMOTE_OPEN, _MAX_PIECE_LEN, _PAYLOAD_ROOM = range(18, 22)
 _SESSION_OF, _STATE, _SESSION_STATE = range(23, 26)
@@ -20,16 +21,16 @@ _BEGIN_ANSWER, _END_ANSWER, _LET_GO = range(34, 37)
 
 #: What is refused without a name of the engine's
 _REFUSED_AS = {
-    lib.NOT_DETACHED: "NotDetached", lib.UNSETTLED: "Unsettled", lib.NOT_NEXT: "NotNext", lib.NO_LINK: "NoLink", lib.IN_USE: "InUse", lib.OVER: "Over",
-    lib.HELD_BACK: "HeldBack",
+    lib.NOT_DETACHED: "NotDetached", lib.UNSETTLED: "Unsettled", lib.NOT_NEXT: "NotNext", lib.NO_LINK: "NoLink",
+    lib.IN_USE: "InUse", lib.OVER: "Over", lib.HELD_BACK: "HeldBack",
 }  # fmt: skip
 
 _R = TypeVar("_R", bound="Requests")
 
 #: The states of a connection, in the library's order (AMQP 1.0 part 2, section 2.4.6)
 STATES = (
-    "START", "HDR_RCVD", "HDR_SENT", "HDR_EXCH", "OPEN_PIPE", "OC_PIPE", "OPEN_RCVD", "OPEN_SENT", "CLOSE_PIPE", "OPENED", "CLOSE_RCVD", "CLOSE_SENT",
-    "DISCARDING", "END",
+    "START", "HDR_RCVD", "HDR_SENT", "HDR_EXCH", "OPEN_PIPE", "OC_PIPE", "OPEN_RCVD", "OPEN_SENT", "CLOSE_PIPE",
+    "OPENED", "CLOSE_RCVD", "CLOSE_SENT", "DISCARDING", "END",
 )  # fmt: skip
 
 
@@ -44,8 +45,9 @@ class NoMemory(MemoryError):
 
 
 class AnswerLost(NoMemory):
-    """Memory was refused once the engine had begun a session. `is_sent`: its Begin went out, and the peer's was not taken, so that the connection is to be
-    closed; else the number is used, and the peer may be answered under another one."""
+    """Memory was refused once the engine had begun a session. `is_sent`: its Begin went out, and the peer's was not
+    taken, so that the connection is to be closed; else the number is used, and the peer may be answered under another
+    one."""
 
     def __init__(self, is_sent: bool) -> None:
         super().__init__("memory was refused once a session had begun")
@@ -59,8 +61,8 @@ class BadArgument(ValueError):
 class Requests:
     """The requests of one side of one connection. It belongs to one thread at a time.
 
-    A request that is refused raises `Refusal`; nothing that came before it is lost. What is to be sent is taken by `to_send`.
-    """
+    A request that is refused raises `Refusal`; nothing that came before it is lost. What is to be sent is taken by
+    `to_send`."""
 
     def __init__(self, functions: Any) -> None:
         """`functions` are those of the library."""
@@ -126,21 +128,22 @@ class Requests:
         self._numbers.pop(session, None)
 
     def answer_begin(self, session: int, frame: bytes, begin: Optional[Begin] = None) -> None:
-        """The Begin by which the peer begins a session, a frame behind its size, is answered by a session under a number that none had. Raises `Refusal`
-        where it is not: `NotOpened`, `ChannelInUse`, `TooLarge`, or by the engine's name; and `AnswerLost` where memory was refused on the way."""
+        """The Begin by which the peer begins a session, a frame behind its size, is answered by a session under a
+        number that none had. Raises `Refusal` where it is not: `NotOpened`, `ChannelInUse`, `TooLarge`, or by the
+        engine's name; and `AnswerLost` where memory was refused on the way."""
         perf = (begin or Begin()).encode(self._functions)
         self._ask(_BEGIN_ANSWER, numbers(session, len(perf)) + perf + frame)
         self._numbers[session] = 0
 
     def answer_end(self, session: int, error: Optional[Error] = None) -> None:
-        """The End by which the peer ends a session is answered, and the session is let go. Raises `Refusal` where the peer has not ended it, or this side
-        has too (`NotEnded`), and as `let_go` does."""
+        """The End by which the peer ends a session is answered, and the session is let go. Raises `Refusal` where the
+        peer has not ended it, or this side has too (`NotEnded`), and as `let_go` does."""
         self._ask(_END_ANSWER, numbers(session) + (b"\0" if error is None else b"\1" + error.encode(self._functions)))
         self._numbers.pop(session, None)
 
     def let_go(self, session: int) -> None:
-        """A session that both sides have ended gives its channel back, and is let go: `release` and `forget`. Raises `Refusal` (`NotEnded`) of any other,
-        which keeps its channel."""
+        """A session that both sides have ended gives its channel back, and is let go: `release` and `forget`. Raises
+        `Refusal` (`NotEnded`) of any other, which keeps its channel."""
         self._ask(_LET_GO, numbers(session))
         self._numbers.pop(session, None)
 
@@ -157,8 +160,8 @@ class Requests:
     # ---- links
 
     def link(self, session: int, name: str, role: bool, settle_mode: int = 0) -> int:
-        """A link of this name is allotted, on whose events `role`, this side's, and its receiver's settle mode decide. Answers its output handle,
-        by which all later calls name the link."""
+        """A link of this name is allotted, on whose events `role`, this side's, and its receiver's settle mode decide.
+        Answers its output handle, by which all later calls name the link."""
         return self._allot(_LINK, numbers(session) + bytes([role, settle_mode]) + name.encode())
 
     def link_on(self, session: int, input_handle: int, name: str, role: bool, settle_mode: int = 0) -> int:
@@ -178,9 +181,10 @@ class Requests:
         self._ask(_FLOW, numbers(session) + flow.encode(self._functions))
 
     def transfer(self, session: int, transfer: Transfer, payload: bytes = b"", first: bool = True) -> Optional[int]:
-        """A transfer is to be sent: the first of its delivery, or a later one. `transfer.handle` is the output handle of its link, which the peer has
-        attached and neither side has detached: else it is refused (`UnattachedHandle`). Answers the number of the delivery, of a first one: deliveries
-        are numbered in the order in which they are accepted, from 0 on, also while the session holds them back (AMQP 1.0 part 2, section 2.6.12)."""
+        """A transfer is to be sent: the first of its delivery, or a later one. `transfer.handle` is the output handle
+        of its link, which the peer has attached and neither side has detached: else it is refused (`UnattachedHandle`).
+        Answers the number of the delivery, of a first one: deliveries are numbered in the order in which they are
+        accepted, from 0 on, also while the session holds them back (AMQP 1.0 part 2, section 2.6.12)."""
         perf = transfer.encode(self._functions)
         self._ask(_TRANSFER, numbers(session) + bytes([first]) + numbers(len(perf)) + perf + payload)
         return self._numbered(session) if first else None
@@ -191,7 +195,8 @@ class Requests:
         return number
 
     def payload_room(self, transfer: Transfer) -> int:
-        """How many bytes of payload go out in one frame beside this transfer, whatever number its delivery gets; 0 where there is none."""
+        """How many bytes of payload go out in one frame beside this transfer, whatever number its delivery gets; 0
+        where there is none."""
         return int.from_bytes(self._get(_PAYLOAD_ROOM, transfer.encode(self._functions)), "big")
 
     def disposition(self, session: int, disposition: Disposition) -> None:

@@ -1,4 +1,5 @@
-"""SASL's mechanisms, of either side (AMQP 1.0 part 5, section 5.3): ANONYMOUS, PLAIN and EXTERNAL. Its frames are the library's."""
+"""SASL's mechanisms, of either side (AMQP 1.0 part 5, section 5.3): ANONYMOUS, PLAIN and EXTERNAL. Its frames are the
+library's."""
 
 from __future__ import annotations
 
@@ -11,7 +12,8 @@ from .errors import LoginRefused
 #: What an outcome says: the login is taken, it is not, or this side failed to judge it (section 5.3.3.6)
 OK, AUTH, SYS = 0, 1, 2
 
-#: What judges a name and a password. `True` lets them in, and nothing else does, be it as true as a coroutine that nobody awaited.
+#: What judges a name and a password. `True` lets them in, and nothing else does, be it as true as a coroutine that
+#: nobody awaited.
 Check = Callable[[str, str], Union[bool, Awaitable[bool]]]
 
 
@@ -32,7 +34,8 @@ class Plain:
 
 @dataclass
 class External:
-    """Who is known by other means, as by a certificate of TLS; `identity` is as whom to act, where that is another one."""
+    """Who is known by other means, as by a certificate of TLS; `identity` is as whom to act, where that is another
+    one."""
 
     identity: str = ""
 
@@ -56,7 +59,8 @@ def offered_for(check: Optional[Check]) -> str:
 
 
 def plain_of(response: Optional[bytes]) -> Optional[Plain]:
-    """The login of a response of PLAIN, if it is one. In whose name it is to act, which PLAIN says first, is left aside."""
+    """The login of a response of PLAIN, if it is one. In whose name it is to act, which PLAIN says first, is left
+    aside."""
     parts = (response or b"").split(b"\0")
     if len(parts) != 3:
         return None
@@ -67,7 +71,8 @@ def plain_of(response: Optional[bytes]) -> Optional[Plain]:
 
 
 async def judge(mechanism: str, response: Optional[bytes], check: Optional[Check]) -> bool:
-    """Whether a client is let in that chose this mechanism, of which one alone is offered. What `check` raises is raised."""
+    """Whether a client is let in that chose this mechanism, of which one alone is offered. What `check` raises is
+    raised."""
     if mechanism != offered_for(check):
         return False
     if check is None:
@@ -80,5 +85,6 @@ async def judge(mechanism: str, response: Optional[bytes], check: Optional[Check
 
 
 __all__ = [
-    "AUTH", "Anonymous", "Check", "External", "Login", "LoginRefused", "OK", "Plain", "SYS", "judge", "offered_for", "plain_of", "said_by",
+    "AUTH", "Anonymous", "Check", "External", "Login", "LoginRefused", "OK", "Plain", "SYS", "judge", "offered_for",
+    "plain_of", "said_by",
 ]  # fmt: skip

@@ -22,6 +22,7 @@ from .records import HEAD, Record
 if TYPE_CHECKING:
     from .client import Client
 
+
 class Sending:
     """One message on its way, and who waits for what becomes of it."""
 

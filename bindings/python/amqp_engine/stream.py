@@ -8,14 +8,16 @@ import time
 from dataclasses import dataclass
 from typing import Any, Awaitable, Dict, Optional
 
-#: As many bytes may wait before a call waits for the peer to read them, and so many it has to read within `Waits.reading`
+#: As many bytes may wait before a call waits for the peer to read them, and so many it has to read within
+#: `Waits.reading`
 _FEW = 65536
 #: How much earlier a time may be over, by the clock
 _MOMENT = 0.05
 
 
 class PeerSilent(ConnectionError):
-    """The peer took longer than it may: nothing came within this side's `idle_time_out`, it did not read, or it did not answer (`Waits`)."""
+    """The peer took longer than it may: nothing came within this side's `idle_time_out`, it did not read, or it did not
+    answer (`Waits`)."""
 
 
 @dataclass
@@ -33,8 +35,8 @@ class Waits:
 
 
 async def within(seconds: Optional[float], what: Awaitable[Any], otherwise: str) -> Any:
-    """What is awaited, or `PeerSilent` after so many seconds. `asyncio.wait_for` would wait on for what does not let itself be cancelled, and before
-    Python 3.12 can lose a cancellation of its caller."""
+    """What is awaited, or `PeerSilent` after so many seconds. `asyncio.wait_for` would wait on for what does not let
+    itself be cancelled, and before Python 3.12 can lose a cancellation of its caller."""
     task = asyncio.ensure_future(what)
     try:
         await asyncio.wait({task}, timeout=seconds)
@@ -61,14 +63,16 @@ class Stream:
         self._failed: Optional[PeerSilent] = None
 
     async def take(self, count: int) -> bytes:
-        """So many bytes. It sets no limit of time: headers and SASL, for which alone it is called, have `Waits.login` for all of them together."""
+        """So many bytes. It sets no limit of time: headers and SASL, for which alone it is called, have `Waits.login`
+        for all of them together."""
         try:
             return await self._reader.readexactly(count)
         except asyncio.IncompleteReadError:
             raise ConnectionError("the peer hung up") from None
 
     async def read(self, seconds: Optional[float], otherwise: str) -> bytes:
-        """Bytes that came; none where the stream is over. Raises the error of another task that gave the peer up, and `PeerSilent` after so many seconds."""
+        """Bytes that came; none where the stream is over. Raises the error of another task that gave the peer up, and
+        `PeerSilent` after so many seconds."""
         if self._is_awaited:
             raise RuntimeError("two tasks wait for what comes on one connection")
         reading = self._begin_to_read()
@@ -118,8 +122,8 @@ class Stream:
         return self._drains.locked()
 
     async def drain(self, idle: Optional[float] = None) -> None:
-        """Waits until few bytes wait. A peer that reads too few of them is given up: the stream ends. So is one that reads none while nothing comes from it
-        for `idle` seconds."""
+        """Waits until few bytes wait. A peer that reads too few of them is given up: the stream ends. So is one that
+        reads none while nothing comes from it for `idle` seconds."""
         self._write_out()
         if self.unsent <= _FEW:
             return

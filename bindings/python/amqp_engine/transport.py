@@ -1,4 +1,5 @@
-"""A transport by `asyncio`: protocol headers, SASL, what the engine is to send, and idle time-outs (AMQP 1.0 part 2, sections 2.2 and 2.4.5).
+"""A transport by `asyncio`: protocol headers, SASL, what the engine is to send, and idle time-outs (AMQP 1.0 part 2,
+sections 2.2 and 2.4.5).
 
     async with connect("localhost", 5672, Open("me")) as connection:
         connection.engine.open()
@@ -7,8 +8,9 @@
             ...
         await connection.close()
 
-What is asked of `connection.engine` goes out with the next `await connection.flush()`, or as soon as the next bytes come. Whatever the peer does, no call
-waits longer than `Waits` says, but for the next event of a peer that is to be silent by its own and this side's word (no `idle_time_out`).
+What is asked of `connection.engine` goes out with the next `await connection.flush()`, or as soon as the next bytes
+come. Whatever the peer does, no call waits longer than `Waits` says, but for the next event of a peer that is to be
+silent by its own and this side's word (no `idle_time_out`).
 """
 
 from __future__ import annotations
@@ -44,7 +46,8 @@ class HeaderRefused(ConnectionError):
 
 
 class SessionRefused(ConnectionError):
-    """The peer did not begin a session: it ended it at once, or the connection; `refusal` says why, where the peer did."""
+    """The peer did not begin a session: it ended it at once, or the connection; `refusal` says why, where the peer
+    did."""
 
     def __init__(self, number: int, refusal: Optional[Refusal]) -> None:
         why = "the stream ended" if refusal is None else ": ".join(filter(None, (str(refusal), refusal.description)))
@@ -53,9 +56,10 @@ class SessionRefused(ConnectionError):
 
 
 class Connection:
-    """One connection: an engine, and the stream that carries its bytes. An asynchronous iterator of events and refusals; it ends with the stream,
-    or when both sides have closed. A Close of the peer's is answered. `server` is there where the connection was accepted. One task at a time iterates,
-    begins a session or closes; any may `push` and `flush`."""
+    """One connection: an engine, and the stream that carries its bytes. An asynchronous iterator of events and
+    refusals; it ends with the stream, or when both sides have closed. A Close of the peer's is answered. `server` is
+    there where the connection was accepted. One task at a time iterates, begins a session or closes; any may `push` and
+    `flush`."""
 
     def __init__(
         self,
@@ -100,7 +104,8 @@ class Connection:
         await within(self._waits.login, self._open(opening, b"", None), "no protocol header and no answer to a login")
 
     async def accept(self, check: Optional[sasl.Check] = None) -> None:
-        """The server's part. A client need not use SASL where no login is checked. What `check` raises is raised, after the login was refused."""
+        """The server's part. A client need not use SASL where no login is checked. What `check` raises is raised, after
+        the login was refused."""
         await within(self._waits.login, self._accept(check), "no protocol header and no login")
 
     async def _accept(self, check: Optional[sasl.Check]) -> None:
@@ -129,14 +134,16 @@ class Connection:
         self._coming = (self.server or self.engine).receive(b"")
 
     async def _some(self) -> bytes:
-        """What comes next of headers and SASL. It sets no limit of time: `begin` and `accept` have `Waits.login` for all of them together."""
+        """What comes next of headers and SASL. It sets no limit of time: `begin` and `accept` have `Waits.login` for
+        all of them together."""
         came = await self._stream.read(None, "")
         if not came:
             raise ConnectionError("the peer hung up")
         return came
 
     async def _passes(self, came: bytes, check: Optional[sasl.Check]) -> bool:
-        """Takes what came of headers and SASL, and answers what is to be answered. True once the stream is open; what came behind is left to the engine."""
+        """Takes what came of headers and SASL, and answers what is to be answered. True once the stream is open; what
+        came behind is left to the engine."""
         for event in self.engine.receive(came):
             if isinstance(event, LoginAsked):
                 await self._judge(event, check)
@@ -184,8 +191,8 @@ class Connection:
         await self.drain()
 
     async def drain(self) -> None:
-        """Waits while the peer has much to read. One that does not read is given up, by `PeerSilent`; sooner where nothing comes from it either, and this
-        side has an `idle_time_out`."""
+        """Waits while the peer has much to read. One that does not read is given up, by `PeerSilent`; sooner where
+        nothing comes from it either, and this side has an `idle_time_out`."""
         await self._stream.drain(self._own_limit)
 
     def __aiter__(self) -> AsyncIterator[ServerEvent]:
@@ -205,8 +212,8 @@ class Connection:
         return self._kept.popleft() if self._kept else next(self._coming)
 
     async def _pump(self, until: Optional[float] = None) -> bool:
-        """Sends what waits, and reads what comes next, until a time on the clock of `time.monotonic`, if there is one. False where the stream is over, or
-        both sides have closed."""
+        """Sends what waits, and reads what comes next, until a time on the clock of `time.monotonic`, if there is one.
+        False where the stream is over, or both sides have closed."""
         self._answer_close()
         await self.flush()
         if self.engine.state == "END":
@@ -222,8 +229,9 @@ class Connection:
                 self.engine.close()
 
     async def session(self, number: int, begin: Optional[Begin] = None) -> None:
-        """Begins a session, and waits until the peer's Begin has come. What else comes meanwhile is kept for the iterator. Raises `SessionRefused` where
-        the peer ends the session, or the connection, and `PeerSilent` where it does not answer."""
+        """Begins a session, and waits until the peer's Begin has come. What else comes meanwhile is kept for the
+        iterator. Raises `SessionRefused` where the peer ends the session, or the connection, and `PeerSilent` where it
+        does not answer."""
         self._keep()
         known = len(self._kept)
         self.engine.begin(number, begin)
@@ -288,15 +296,20 @@ class Connection:
 
     def _keep_alive(self) -> None:
         """From both Opens on an empty frame goes out where else nothing would."""
-        if self._beats is None and self.engine.state == "OPENED" and (theirs := self.engine.remote_open) and theirs.idle_time_out:
+        if (
+            self._beats is None
+            and self.engine.state == "OPENED"
+            and (theirs := self.engine.remote_open)
+            and theirs.idle_time_out
+        ):
             self._tell_time()
 
     def _now(self) -> int:
         return int((time.monotonic() - self._start) * 1000)
 
     def _tell_time(self) -> None:
-        """Tells the library the time: an empty frame goes out where one is due, and the peer reads what was sent before.
-        Whether the peer is silent says who waits for it to send: it is not where the program takes nothing."""
+        """Tells the library the time: an empty frame goes out where one is due, and the peer reads what was sent
+        before. Whether the peer is silent says who waits for it to send: it is not where the program takes nothing."""
         if self.engine.has_ended:
             return
         wait = _BRIEFEST
@@ -327,15 +340,16 @@ class Connection:
                 self.engine.free()
 
     async def close(self, error: Optional[Error] = None) -> None:
-        """Sends a Close, and waits until the peer's has come; what else comes meanwhile is passed over. Raises `PeerSilent` where none comes in time."""
+        """Sends a Close, and waits until the peer's has come; what else comes meanwhile is passed over. Raises
+        `PeerSilent` where none comes in time."""
         # at a size that no frame may have the engine has closed by itself
         if not self.engine.is_broken:
             self.engine.close(error)
         await self._passed_over()
 
     async def fail(self, error: BaseException) -> None:
-        """Ends the connection for this error, of the peer's or of this side's: the peer is told the condition, where protocol headers have passed, and
-        has a moment to read it."""
+        """Ends the connection for this error, of the peer's or of this side's: the peer is told the condition, where
+        protocol headers have passed, and has a moment to read it."""
         if not self._is_begun:
             return
         await self._close_soon(Error(condition_of(error), str(error) if isinstance(error, Refusal) else None))
@@ -358,9 +372,14 @@ def error_of(event: NotOpened) -> Exception:
 
 
 def condition_of(error: BaseException) -> str:
-    """The condition by which a peer is told of an error: of a refusal its own; of what is this side's fault, that it is (AMQP 1.0 part 2, section 2.8.15)."""
+    """The condition by which a peer is told of an error: of a refusal its own; of what is this side's fault, that it is
+    (AMQP 1.0 part 2, section 2.8.15)."""
     if isinstance(error, Malformed):
         return "amqp:decode-error"
     if isinstance(error, Refusal) and error.condition:
         return error.condition
-    return "amqp:frame-size-too-small" if isinstance(error, Refusal) and error.name == "TooLarge" else "amqp:internal-error"
+    return (
+        "amqp:frame-size-too-small"
+        if isinstance(error, Refusal) and error.name == "TooLarge"
+        else "amqp:internal-error"
+    )

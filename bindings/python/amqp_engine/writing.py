@@ -9,7 +9,8 @@ from datetime import datetime
 from typing import Any, Callable, Dict, List, Optional, Tuple, Union
 
 from .kinds import (
-    DEEPEST, Array, Byte, Char, Decimal, Described, Float, Int, Repeated, Short, Symbol, Timestamp, Ubyte, Uint, Ulong, Ushort,
+    DEEPEST, Array, Byte, Char, Decimal, Described, Float, Int, Repeated, Short, Symbol, Timestamp, Ubyte, Uint, Ulong,
+    Ushort,
 )  # fmt: skip
 
 
@@ -92,7 +93,8 @@ def _sized(short: int, data: bytes, count: Optional[int] = None) -> bytes:
 
 
 def _extent(code: int, data: bytes, count: Optional[int] = None) -> bytes:
-    """The same without the code: a size, the count, if there is one, and the data. Raises `OverflowError` where they do not fit the code."""
+    """The same without the code: a size, the count, if there is one, and the data. Raises `OverflowError` where they do
+    not fit the code."""
     width = 4 if code & 0x10 else 1
     counted = b"" if count is None else count.to_bytes(width, "big")
     return (len(counted) + len(data)).to_bytes(width, "big") + counted + data
@@ -153,7 +155,11 @@ def _data(code: int, item: Any, depth: int) -> bytes:
     if code in _FIXED:
         return _FIXED[code](item)
     if code not in _EMPTY:
-        return _extent(code, _bytes(item)) if code & 0xEF in (0xA0, 0xA1, 0xA3) else _extent(code, *_parts(item, depth + 1))
+        return (
+            _extent(code, _bytes(item))
+            if code & 0xEF in (0xA0, 0xA1, 0xA3)
+            else _extent(code, *_parts(item, depth + 1))
+        )
     if item != _EMPTY[code]:
         raise ValueError(f"{item!r} is no item of an array of the code {code:02x}")
     return b""
@@ -164,23 +170,27 @@ def _data(code: int, item: Any, depth: int) -> bytes:
 # the values that take no bytes after their code
 _EMPTY: Dict[int, Any] = {0x40: None, 0x41: True, 0x42: False, 0x43: 0, 0x44: 0, 0x45: []}
 _FIXED: Dict[int, Callable[[Any], bytes]] = {
-    0x50: _number(1, False), 0x51: _number(1, True), 0x52: _number(1, False), 0x53: _number(1, False), 0x54: _number(1, True), 0x55: _number(1, True),
-    0x56: lambda it: b"\x01" if it else b"\x00", 0x60: _number(2, False), 0x61: _number(2, True), 0x70: _number(4, False), 0x71: _number(4, True),
-    0x72: lambda it: struct.pack(">f", it), 0x73: lambda it: str.encode(it, "utf-32-be"), 0x74: bytes, 0x80: _number(8, False), 0x81: _number(8, True),
-    0x82: lambda it: struct.pack(">d", it), 0x83: _number(8, True), 0x84: bytes, 0x94: bytes, 0x98: lambda it: bytes(it.bytes),
+    0x50: _number(1, False), 0x51: _number(1, True), 0x52: _number(1, False), 0x53: _number(1, False),
+    0x54: _number(1, True), 0x55: _number(1, True), 0x56: lambda it: b"\x01" if it else b"\x00",
+    0x60: _number(2, False), 0x61: _number(2, True), 0x70: _number(4, False), 0x71: _number(4, True),
+    0x72: lambda it: struct.pack(">f", it), 0x73: lambda it: str.encode(it, "utf-32-be"), 0x74: bytes,
+    0x80: _number(8, False), 0x81: _number(8, True), 0x82: lambda it: struct.pack(">d", it), 0x83: _number(8, True),
+    0x84: bytes, 0x94: bytes, 0x98: lambda it: bytes(it.bytes),
 }  # fmt: skip
 _WIDEST: List[Tuple[type, int]] = [
-    (type(None), 0x40), (bool, 0x56), (Ubyte, 0x50), (Ushort, 0x60), (Uint, 0x70), (Ulong, 0x80), (Byte, 0x51), (Short, 0x61), (Int, 0x71),
-    (Timestamp, 0x83), (int, 0x81), (Float, 0x72), (float, 0x82), (uuid.UUID, 0x98), (Symbol, 0xB3), (Char, 0x73), (str, 0xB1), (bytes, 0xB0),
-    (list, 0xD0), (Mapping, 0xD1), (Array, 0xF0),
+    (type(None), 0x40), (bool, 0x56), (Ubyte, 0x50), (Ushort, 0x60), (Uint, 0x70), (Ulong, 0x80), (Byte, 0x51),
+    (Short, 0x61), (Int, 0x71), (Timestamp, 0x83), (int, 0x81), (Float, 0x72), (float, 0x82), (uuid.UUID, 0x98),
+    (Symbol, 0xB3), (Char, 0x73), (str, 0xB1), (bytes, 0xB0), (list, 0xD0), (Mapping, 0xD1), (Array, 0xF0),
 ]  # fmt: skip
 # of a kind and those that are made from it, in this order: what stands later is more general
 _WRITERS: List[Tuple[type, Callable[[Any], bytes]]] = [
-    (type(None), lambda it: b"\x40"), (bool, lambda it: b"\x41" if it else b"\x42"), (Ubyte, _plain(0x50)), (Ushort, _plain(0x60)),
-    (Uint, _short(b"\x43", 0x52, 0x70)), (Ulong, _short(b"\x44", 0x53, 0x80)), (Byte, _plain(0x51)), (Short, _plain(0x61)),
-    (Int, _short(None, 0x54, 0x71, True)), (Timestamp, _plain(0x83)), (int, _short(None, 0x55, 0x81, True)), (Float, _plain(0x72)),
-    (float, _plain(0x82)), (uuid.UUID, _plain(0x98)), (Decimal, lambda it: bytes([_code(it, [it])]) + bytes(it)), (Symbol, _variable(0xA3)),
-    (Char, _plain(0x73)), (str, _variable(0xA1)), (bytes, _variable(0xA0)), (bytearray, lambda it: _sized(0xA0, bytes(it))), (datetime, _moment),
+    (type(None), lambda it: b"\x40"), (bool, lambda it: b"\x41" if it else b"\x42"), (Ubyte, _plain(0x50)),
+    (Ushort, _plain(0x60)), (Uint, _short(b"\x43", 0x52, 0x70)), (Ulong, _short(b"\x44", 0x53, 0x80)),
+    (Byte, _plain(0x51)), (Short, _plain(0x61)), (Int, _short(None, 0x54, 0x71, True)), (Timestamp, _plain(0x83)),
+    (int, _short(None, 0x55, 0x81, True)), (Float, _plain(0x72)), (float, _plain(0x82)), (uuid.UUID, _plain(0x98)),
+    (Decimal, lambda it: bytes([_code(it, [it])]) + bytes(it)), (Symbol, _variable(0xA3)), (Char, _plain(0x73)),
+    (str, _variable(0xA1)), (bytes, _variable(0xA0)), (bytearray, lambda it: _sized(0xA0, bytes(it))),
+    (datetime, _moment),
 ]  # fmt: skip
 _EXACT: Dict[type, Callable[[Any], bytes]] = dict(_WRITERS)
 _COMPOUND = (Described, list, tuple, Mapping, Array)

@@ -1,5 +1,5 @@
-//! What waits at each address of the server in `server.rs`. A thread for each link hands it out, and waits for a message
-//! and for credit.
+//! What waits at each address of the server in `server.rs`. A thread for each link hands it out, and waits for a
+//! message and for credit.
 
 use std::collections::{HashMap, HashSet, VecDeque};
 use std::net::TcpStream;

@@ -1,7 +1,7 @@
 //! A broker in memory: `server PORT CLIENTS [USER PASSWORD]` serves so many clients, each in a thread of its own, and
-//! each link on which it sends in one more (`queues.rs`); they wait for what comes, and poll nothing. What is sent to an
-//! address waits there until it is sent on; what cannot be accepted is not kept. The status is 0 where each client has
-//! closed.
+//! each link on which it sends in one more (`queues.rs`); they wait for what comes, and poll nothing. What is sent to
+//! an address waits there until it is sent on; what cannot be accepted is not kept. The status is 0 where each client
+//! has closed.
 
 use std::collections::{HashMap, HashSet};
 use std::net::{TcpListener, TcpStream};

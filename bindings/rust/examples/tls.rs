@@ -1,7 +1,7 @@
-//! Sends messages to a queue of a server over TLS, logged in by EXTERNAL, or without a certificate by ANONYMOUS, and has
-//! each accepted: `tls HOST:PORT QUEUE COUNT CA [CERTIFICATE KEY]`. The server's certificate has to be for the host, and
-//! of the authority CA. `openssl s_client` speaks TLS here, as a program beside this one; the page of `Timed` says how
-//! `rustls` and `native-tls` do.
+//! Sends messages to a queue of a server over TLS, logged in by EXTERNAL, or without a certificate by ANONYMOUS, and
+//! has each accepted: `tls HOST:PORT QUEUE COUNT CA [CERTIFICATE KEY]`. The server's certificate has to be for the
+//! host, and of the authority CA. `openssl s_client` speaks TLS here, as a program beside this one; the page of `Timed`
+//! says how `rustls` and `native-tls` do.
 
 use std::os::fd::OwnedFd;
 use std::os::unix::net::UnixStream;
