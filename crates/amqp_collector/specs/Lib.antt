@@ -1,0 +1,2 @@
+pub mod Collector
+pub use Rattle.amqp_links.specs as amqp_links
