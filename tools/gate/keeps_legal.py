@@ -33,11 +33,12 @@ HISTORIES = (
     ("amqp_credit", ("Assembly",), ("amqp_credit", "AssemblyHistory", "AssemblyStep")),
     ("amqp_links", ("SendingLink",), ("amqp_links", "SendingHistory", "SendingStep")),
     ("amqp_links", ("ReceivingLink",), ("amqp_links", "ReceivingHistory", "ReceivingStep")),
+    ("amqp_collector", ("Collector",), ("amqp_collector", "History", "CollectorStep")),
     ("amqp_unsettled", ("Unsettled",), ("amqp_unsettled", "History", "TableStep")),
     ("amqp_endpoints", ("SessionEndpoint",), ("amqp_endpoints", "History", "EndpointStep")),
 )
 # Crates whose steps have names of their own: each definition of the crate that the step of its histories cites is one.
-BY_OWN_NAMES = ("amqp_endpoints",)
+BY_OWN_NAMES = ("amqp_collector", "amqp_endpoints")
 LEGAL = "amqp_engine", "Legal", "Legal"
 OWNER = re.compile(r"impl(?:<.*?>)? (?:[\w:]+(?:<.*?>)? for )?(\w+)")
 # The value stays as it was, or but for a driver's bytes.

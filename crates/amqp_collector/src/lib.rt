@@ -12,5 +12,6 @@
 #![tactic(auto)]
 
 mod collector;
+pub mod laws;
 
 pub use collector::{CollectError, Collector};
