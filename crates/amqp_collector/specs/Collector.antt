@@ -1,6 +1,7 @@
 -- Part: other calls; inner.
 -- Payloads of deliveries that come in parts, put together up to a bound (AMQP 1.0 part 2, section 2.6.14).
-use Rattle.std.specs.Prelude.{ℕ, ◌+◌, ◌≡◌, ◌++◌, nat_le, length, Bool, true, false, List, [], Option, Some, None, Result, Ok, Err}
+use Rattle.std.specs.Prelude.{ℕ, ◌+◌, ◌≡◌, ◌++◌, nat_le, length, Bool, true, false, List, [], Option, Some, None}
+use Rattle.std.specs.Prelude.{Result, Ok, Err}
 use Rattle.amqp_memory.specs.Refusal.{SomeRefused}
 use Rattle.amqp_links.specs.amqp_credit.declared.part.Part.{Part}
 use Rattle.amqp_links.specs.amqp_credit.declared.part.PartEnd.{PartEnd}
@@ -8,7 +9,8 @@ use Rattle.amqp_links.specs.amqp_credit.declared.part.PartEnd.TheVariants.{More,
 use Rattle.amqp_collector.specs.declared.collector.CollectError.{CollectError}
 use Rattle.amqp_collector.specs.declared.collector.CollectError.TheVariants.{OutOfMemory, TooLarge}
 
--- How many bytes are held at most; those that are held of the delivery under way; and whether an earlier part of it was too much.
+-- How many bytes are held at most; those that are held of the delivery under way; and whether an earlier part of it was
+-- too much.
 pub record CollectorView : Type 0 where
   pub most : ℕ
   pub held : List ℕ
@@ -63,7 +65,8 @@ Ends v payload result w = EndsUnless v.lost v payload result w
 
 -- ---- any part
 
-abbrev pub CollectsBy : PartEnd → CollectorView → List ℕ → Result (Option (List ℕ)) CollectError → CollectorView → Type 0
+abbrev pub CollectsBy : PartEnd → CollectorView → List ℕ → Result (Option (List ℕ)) CollectError → CollectorView →
+    Type 0
 CollectsBy More v payload result w = Keeps v payload result w
 CollectsBy Last v payload result w = Ends v payload result w
 CollectsBy Aborted v payload result w = (result ≡ Ok None) × (w ≡ begun v)

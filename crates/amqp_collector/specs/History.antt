@@ -1,7 +1,8 @@
 -- Part: other calls.
--- The history of a collector: the parts that came, with their payloads and what was answered, the oldest first, and what holds of each (AMQP 1.0 part 2,
--- section 2.6.14).
-use Rattle.std.specs.Prelude.{ℕ, ◌≡◌, ◌≤◌, ◌++◌, length, true, false, List, [], ◌∷◌, Option, Some, None, Result, Ok, Err}
+-- The history of a collector: the parts that came, with their payloads and what was answered, the oldest first, and
+-- what holds of each (AMQP 1.0 part 2, section 2.6.14).
+use Rattle.std.specs.Prelude.{ℕ, ◌≡◌, ◌≤◌, ◌++◌, length, true, false, List, [], ◌∷◌, Option, Some, None, Result, Ok}
+use Rattle.std.specs.Prelude.{Err}
 use Rattle.amqp_links.specs.amqp_credit.Chain.{Chain}
 use Rattle.amqp_links.specs.amqp_credit.declared.part.Part.{Part}
 use Rattle.amqp_links.specs.amqp_credit.declared.part.PartEnd.TheVariants.{More}
@@ -17,7 +18,8 @@ CollectorStep v (Comes p payload result) w = Collects v p payload result w
 
 -- what holds of every history of every collector, by the bound that it was made for
 abbrev pub OfCollectors : (ℕ → List CollectorCall → CollectorView → Type 0) → Type 0
-OfCollectors P = (most : ℕ) (H : List CollectorCall) (v : CollectorView) → Chain CollectorStep (new_collector most) H v → P most H v
+OfCollectors P =
+    (most : ℕ) (H : List CollectorCall) (v : CollectorView) → Chain CollectorStep (new_collector most) H v → P most H v
 
 -- No more is held than the bound.
 abbrev pub HeldWithin : ℕ → CollectorView → Type 0
@@ -40,9 +42,11 @@ abbrev pub added_by : List CollectorCall → List ℕ
 added_by [] = []
 added_by (c ∷ cs) = added c ++ added_by cs
 
--- What is answered as a whole is the payload of its delivery's first part, and those of its later parts, in the order in which they came.
+-- What is answered as a whole is the payload of its delivery's first part, and those of its later parts, in the order
+-- in which they came.
 abbrev pub WholeIsParts : List CollectorCall → Type 0
 WholeIsParts H =
     (before mid after : List CollectorCall) (p q : Part) (a z whole : List ℕ)
-    → H ≡ before ++ Comes p a (Ok None) ∷ (mid ++ Comes q z (Ok (Some whole)) ∷ after) → p.is_first ≡ true → p.end ≡ More → AllGoOn mid
+    → H ≡ before ++ Comes p a (Ok None) ∷ (mid ++ Comes q z (Ok (Some whole)) ∷ after) → p.is_first ≡ true →
+    p.end ≡ More → AllGoOn mid
     → q.is_first ≡ false → whole ≡ a ++ (added_by mid ++ z)

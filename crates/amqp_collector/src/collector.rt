@@ -12,15 +12,16 @@ use std::marker::Model;
 /// Why the payload of a part is not collected.
 #[derive(Clone, Copy, Debug, PartialEq, Eq)]
 pub enum CollectError {
-    /// The delivery has more bytes than are held. What was held of it is let go, and the rest of its parts is passed over.
+    /// The delivery has more bytes than are held. What was held of it is let go, and the rest of its parts is passed
+    /// over.
     TooLarge,
     /// Memory was refused. What was held is held still, and the part may be told again.
     OutOfMemory,
 }
 
-/// The payloads of the deliveries that come on one link, whose parts are put together. A delivery of one part is handed on
-/// as it came, and copied nowhere. Of others it holds at most as many bytes as it was made for, and nothing once they have
-/// ended.
+/// The payloads of the deliveries that come on one link, whose parts are put together. A delivery of one part is handed
+/// on as it came, and copied nowhere. Of others it holds at most as many bytes as it was made for, and nothing once
+/// they have ended.
 #[derive(Drop)]
 pub struct Collector {
     alloc: Global,
@@ -50,10 +51,10 @@ impl Collector {
         }
     }
 
-    /// A part of a delivery has come, with this payload. It answers the payload of the whole delivery where the part is its
-    /// last one. `None` where more parts come, the delivery is aborted, or an earlier part of it was too much. A part that
-    /// begins a delivery has what was held of another one let go, which did not end. `part` is what a link tells of the
-    /// transfer: [`ReceivedPart::part`](amqp_links::ReceivedPart::part).
+    /// A part of a delivery has come, with this payload. It answers the payload of the whole delivery where the part is
+    /// its last one. `None` where more parts come, the delivery is aborted, or an earlier part of it was too much. A
+    /// part that begins a delivery has what was held of another one let go, which did not end. `part` is what a link
+    /// tells of the transfer: [`ReceivedPart::part`](amqp_links::ReceivedPart::part).
     ///
     /// # Errors
     /// Each [`CollectError`] says when.
